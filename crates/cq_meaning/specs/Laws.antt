@@ -1,0 +1,50 @@
+-- The laws that the crate's functions prove.
+use Rattle.std.specs.Prelude.{ℕ, ◌<◌, List, [], ◌∷◌, length, All, Contains, Bool, ◌↔◌}
+use Rattle.cq_terms.specs.declared.axioms.Axiom.{Axiom}
+use Rattle.cq_terms.specs.declared.facts.Fact.{Fact}
+use Rattle.cq_terms.specs.declared.facts.Repairs.{Repairs}
+use Rattle.cq_terms.specs.declared.facts.Repairs.TheVariants as mode
+use Rattle.cq_terms.specs.Knowledge.{Knowledge}
+use Rattle.cq_meaning.specs.Candidates.{Every, concept_query, IsWitness}
+use Rattle.cq_meaning.specs.Chase.{Atom, InStage}
+use Rattle.cq_meaning.specs.ConceptNames.{IsOfNames, IsOfName, PutsInto, PutsSafelyInto}
+use Rattle.cq_meaning.specs.Conflicts.{In, Only, facts_in, AreConsistent, FactsEntail, IsConflictFree, TellConflicts}
+use Rattle.cq_meaning.specs.Cores.{IsCore}
+use Rattle.cq_meaning.specs.Repairs.{IsRepair, IsChosen, IsAcyclic, IsBrave}
+
+-- each atom of a stage descends from one fact
+abbrev pub EachAtomDescends : Type 0
+EachAtomDescends = (axioms : List Axiom) (facts : List Fact) (k : ℕ) (x : Atom) → InStage axioms (Contains facts) k x
+    → (f : Fact) × Contains facts f × InStage axioms (Contains (f ∷ [])) k x
+
+-- the same for a part of a table that is given by numbers
+abbrev pub EachAtomDescendsByNumber : Type 0
+EachAtomDescendsByNumber = (kb : Knowledge) (S : ℕ → Bool) (k : ℕ) (x : Atom) → InStage kb.axioms (facts_in kb (In S)) k x
+    → (i : ℕ) × In S i × InStage kb.axioms (facts_in kb (Only i)) k x
+
+-- a set of facts is consistent exactly where it has no self-inconsistent fact and no two facts that conflict
+abbrev pub ConsistentByPairs : Type 0
+ConsistentByPairs = (kb : Knowledge) (S : ℕ → Bool) → AreConsistent kb (In S) ↔ IsConflictFree kb (In S)
+
+-- a consistent set of facts lies in a repair, where the conflicts can be told
+abbrev pub ExtendsToRepair : Type 0
+ExtendsToRepair = (kb : Knowledge) (own : ℕ → Bool) (clash : ℕ → ℕ → Bool) → TellConflicts kb own clash
+    → (S : ℕ → Bool) → AreConsistent kb (In S)
+    → (R : ℕ → Bool) × IsRepair kb R × ((i : ℕ) → In S i → In R i)
+
+-- under an acyclic priority a core lies in a chosen repair that has nothing of what the core drops, where the conflicts
+-- can be told
+abbrev pub CoreExtends : Type 0
+CoreExtends = (kb : Knowledge) (mode : Repairs) (own : ℕ → Bool) (clash : ℕ → ℕ → Bool) → TellConflicts kb own clash → IsAcyclic kb mode
+    → (kept dropped : ℕ → Bool) → IsCore kb mode kept dropped
+    → (R : ℕ → Bool) × IsChosen kb mode R × ((i : ℕ) → In kept i → In R i) × ((i : ℕ) → i < length kb.facts → In dropped i → ¬ In R i)
+
+-- who is a candidate for a concept, by which facts alone, and who is in it by some repair
+pub record VerdictsByNames (kb : Knowledge) (concept t : ℕ) : Type 0 where
+  pub candidate : FactsEntail kb Every (concept_query concept) (t ∷ []) ↔ ((i : ℕ) × PutsInto kb concept t i)
+  pub witness : (i : ℕ) → IsWitness kb (concept_query concept) (t ∷ []) i ↔ PutsSafelyInto kb concept t i
+  pub brave : IsBrave kb mode.All (concept_query concept) (t ∷ []) ↔ ((i : ℕ) × IsWitness kb (concept_query concept) (t ∷ []) i)
+
+-- under concept names alone the inclusions and disjointnesses above the names of the facts tell all this
+abbrev pub ConceptNameVerdicts : Type 0
+ConceptNameVerdicts = (kb : Knowledge) → All IsOfNames kb.axioms → All IsOfName kb.facts → (concept t : ℕ) → VerdictsByNames kb concept t

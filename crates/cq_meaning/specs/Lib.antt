@@ -1,0 +1,9 @@
+pub mod Candidates
+pub mod Chase
+pub mod ConceptNames
+pub mod Conflicts
+pub mod Cores
+pub mod Entailment
+pub mod Examples
+pub mod Laws
+pub mod Repairs

@@ -1,0 +1,20 @@
+//! The types of a knowledge base and a query, seen as plain lists and records.
+#![tactic(auto)]
+
+mod axioms;
+mod facts;
+mod hits;
+mod kb;
+mod lists;
+mod memory;
+mod names;
+mod query;
+
+pub use axioms::{Axiom, Basic, Role};
+pub use facts::{Fact, Kind, Pair, Repairs};
+pub use hits::{Clash, Hit};
+pub use kb::Kb;
+pub use lists::{IdLists, Ids, Longs, Texts};
+pub use memory::NoMemory;
+pub use names::{Names, Vocab};
+pub use query::{Cq, QAtom, Term};

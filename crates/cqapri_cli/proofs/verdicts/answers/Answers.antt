@@ -1,0 +1,19 @@
+use Rattle.std.proofs.Common.{sym, subst, ap, ◌∙◌, IfOk}
+use Rattle.std.specs.declared.result.Result.{Result}
+use Rattle.std.specs.declared.result.Result.TheVariants.{Ok, Err}
+use Rattle.cq_meaning.specs.Candidates.{concept_query}
+use Rattle.cqapri_cli.specs.Answers.{AreAnswers}
+use Rattle.cqapri_cli.proofs.AnswerLemmas.{present, answers_of}
+use Rattle.cqapri_cli.proofs.verdicts.answers.Goals as goal
+
+-- what follows for the value of an `Ok`
+if_ok : {T E : Type 0} (r : Result T E) (P Q : T → Type 0) → IfOk r P → ((x : T) → P x → Q x) → IfOk r Q
+if_ok (Ok x) P Q p f = f x p
+if_ok (Err e) P Q p f = tt
+
+pub returns : goal.returns
+returns c =
+    let answers = answers_of c.args.kb.now c.args.concept c.args.concepts c.args.individuals c.requires.names c.requires.facts c.in_ok-findings.findings.items c.in_ok-findings.ensures.exact in
+    record {
+      exact = if_ok c.collected.result _ _ c.collected.ensures.exact (λ v e. subst (AreAnswers c.args.kb.now (concept_query c.args.concept)) (sym (e ∙ ap present c.deref.ensures.value)) answers);
+    }

@@ -1,0 +1,21 @@
+//! Writes a text piece by piece.
+
+ghost use Rattle.std.specs.Prelude.{◌≡◌, OnOk, OnErr, is_err};
+ghost use Rattle.std.specs.List.{flat_map};
+ghost use Rattle.cq_io.specs.Faults.{TellsFault};
+ghost use Rattle.cq_io.specs.Writing.{appended};
+ghost use Rattle.cqapri_cli.specs.Pieces.{AppendsFirst};
+
+use cq_io::{Failed, Sink};
+
+/// Writes the pieces one after another, and stops at one that fails. It takes no memory.
+pub(crate) fn write_pieces<S: Sink>(sink: &mut S, pieces: &[&[u8]]) -> Result<(), Failed>
+    ensures exact { OnOk result (S.written sink.new ≡ appended (S.written sink.old) (flat_map (λ piece. piece.now) pieces.now)) }
+    ensures part { OnErr result (AppendsFirst (S.written sink.old) (S.written sink.new) (flat_map (λ piece. piece.now) pieces.now)) }
+    ensures fault { TellsFault (S.faults sink.old) (S.faults sink.new) (is_err result) }
+{
+    for piece in pieces {
+        sink.write_all(piece)?;
+    }
+    Ok(())
+}

@@ -1,0 +1,55 @@
+//! The call that runs a job.
+
+ghost use Rattle.std.specs.Prelude.{◌≡◌, ◌≢◌, ◌↔◌, ◌⊎◌, map, string_bytes};
+ghost use Rattle.cq_io.specs.Faults.{Rose, TellsFault};
+ghost use Rattle.cqapri_cli.specs.Inputs.{AreAccepted};
+ghost use Rattle.cqapri_cli.specs.Refusals.{Tells, status_of};
+ghost use Rattle.cqapri_cli.specs.Run.{NameNothing, NameFiles, AreRefused, Explains, IsComplete, WritesAnswers, WritesFirst, is_read_status, is_write_status};
+ghost use Rattle.cqapri_cli.specs.declared.refusal.Refusal.{Refusal};
+
+use crate::Status;
+use crate::classify_job::classify;
+use cq_io::{Shelf, Sink};
+use std::alloc::Global;
+
+/// Runs the job that the words after the program's name ask for: `classify --ontology F --facts F --query F`.
+///
+/// The files are fetched from `files` and tested in this order: the axioms, the facts, the query. `out` gets one line for
+/// each candidate in the order of the individuals' first appearance: the individual, a comma, `yes` where some repair
+/// entails that it is in the concept and else `no`. `err` gets one line where the status isn't `Done`. Repairs are the
+/// maximal consistent parts of the facts (Bienvenu and Bourgaux 2022).
+pub fn run<S: Shelf, O: Sink, E: Sink>(
+    alloc: Global,
+    words: &[String],
+    files: &mut S,
+    out: &mut O,
+    err: &mut E,
+) -> Status
+    // When each status comes.
+    ensures words { (result ≡ Status.Words) ↔ NameNothing (map string_bytes words.now) }
+    ensures refused { result ≡ Status.Refused → NameFiles (S.holds files.old) (map string_bytes words.now) AreRefused }
+    ensures accepted { ((result ≡ Status.Done) ⊎ (result ≡ Status.WriteFault)) → NameFiles (S.holds files.old) (map string_bytes words.now) AreAccepted }
+    ensures complete { IsComplete (S.holds files.old) (map string_bytes words.now) (Rose (S.faults files.old) (S.faults files.new)) (Rose (O.faults out.old) (O.faults out.new)) result }
+    ensures read_fault { TellsFault (S.faults files.old) (S.faults files.new) (is_read_status result) }
+    ensures write_fault { TellsFault (O.faults out.old) (O.faults out.new) (is_write_status result) }
+    ensures decided { result ≢ Status.Open }
+    ensures unlimited { result ≢ Status.Limit }
+
+    // What `out` and `err` have got.
+    ensures answers { result ≡ Status.Done → WritesAnswers (S.holds files.old) (map string_bytes words.now) (O.written out.old) (O.written out.new) }
+    ensures part { result ≡ Status.WriteFault → WritesFirst (S.holds files.old) (map string_bytes words.now) (O.written out.old) (O.written out.new) }
+    ensures nothing_written { result ≢ Status.Done → result ≢ Status.WriteFault → O.written out.new ≡ O.written out.old }
+    ensures silent { result ≡ Status.Done → (E.written err.new ≡ E.written err.old) × (E.faults err.new ≡ E.faults err.old) }
+    ensures told { result ≢ Status.Done → (r : Refusal) × (status_of r ≡ result) × Explains (S.holds files.old) (map string_bytes words.now) r
+        × Tells r (E.written err.old) (E.written err.new) (E.faults err.old) (E.faults err.new) }
+
+    ensures same_files { S.holds files.new ≡ S.holds files.old }
+{
+    match classify(alloc, words, files, out) {
+        Ok(()) => Status::Done,
+        Err(refusal) => {
+            refusal.tell(err);
+            refusal.status()
+        }
+    }
+}
