@@ -1,0 +1,9 @@
+pub mod AnswerFacts
+pub mod CoreFacts
+pub mod EndFacts
+pub mod FieldFacts
+pub mod HeadFacts
+pub mod LineFacts
+pub mod NoLineFeed
+pub mod Plain
+pub mod ToldFacts

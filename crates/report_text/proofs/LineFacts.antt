@@ -1,0 +1,137 @@
+-- Lines: their texts are UTF-8 with no line feed and read back as them, and well-formed lines with equal texts are equal.
+use Rattle.std.proofs.Common.{◌≡◌, ℕ, ◌≤◌, Bool, true, false, List, Some, None, option_and_then, codes, refl, sym, ap, ◌∙◌, IsUtf8}
+use Rattle.std.specs.Prelude.{if◌then◌else◌}
+use Rattle.std.specs.Str.{bytes_eq}
+use Rattle.std.proofs.lemmas.Option.{option_and_then_some}
+use Rattle.std.proofs.lemmas.Slice.Eq.{bytes_eq-Decides}
+use Rattle.serde_json.specs.Data.{Data, depth}
+use Rattle.serde_json.specs.Read.{read, max_depth}
+use Rattle.serde_json.specs.Written.{has_float, compact_text}
+use Rattle.report_text.specs.declared.line.Line.{Line}
+use Rattle.report_text.specs.declared.line.Line.TheVariants as line
+use Rattle.report_text.specs.Fields.{word_at}
+use Rattle.report_text.specs.HeadLine.{head_at}
+use Rattle.report_text.specs.CoreLine.{core_at}
+use Rattle.report_text.specs.AnswerLine.{answer_at}
+use Rattle.report_text.specs.EndLine.{end_at}
+use Rattle.report_text.specs.Lines.{IsWellFormed, data_of, text_of, line_of_kind, line_at, line_of}
+use Rattle.report_text.proofs.NoLineFeed.{has_line_feed}
+use Rattle.report_text.proofs.Plain.{IsPlain, read-compact_text, IsUtf8-compact_text}
+use Rattle.report_text.proofs.NoLineFeed.{none-compact_text}
+use Rattle.report_text.proofs.HeadFacts.{IsPlain-head_data, depth-head_data, head_at-head_data, IsWellFormed-head_at}
+use Rattle.report_text.proofs.CoreFacts.{has_float-core_data, IsPlain-core_data, depth-core_data, core_at-core_data, IsWellFormed-core_at}
+use Rattle.report_text.proofs.AnswerFacts.{has_float-answer_data, IsPlain-answer_data, depth-answer_data, answer_at-answer_data, IsWellFormed-answer_at}
+use Rattle.report_text.proofs.EndFacts.{IsPlain-end_data, depth-end_data, end_at-end_data, IsWellFormed-end_at}
+
+-- BY KIND
+
+-- no line has a float
+has_float-data_of : (l : Line) → has_float (data_of l) ≡ false
+has_float-data_of (line.Head axioms budget facts keep repairs version) = refl
+has_float-data_of (line.Core number kept dropped) = has_float-core_data number kept dropped
+has_float-data_of (line.Answer brave ar iar cores names tuple) = has_float-answer_data brave ar iar cores names tuple
+has_float-data_of (line.End answers brave ar iar undecided) = refl
+
+-- a well-formed line's JSON is plain
+IsPlain-data_of : (l : Line) → IsWellFormed l → IsPlain (data_of l)
+IsPlain-data_of (line.Head axioms budget facts keep repairs version) h = IsPlain-head_data axioms budget facts keep repairs version h
+IsPlain-data_of (line.Core number kept dropped) h = IsPlain-core_data number kept dropped h
+IsPlain-data_of (line.Answer brave ar iar cores names tuple) h = IsPlain-answer_data brave ar iar cores names tuple h
+IsPlain-data_of (line.End answers brave ar iar undecided) h = IsPlain-end_data answers brave ar iar undecided h
+
+-- a line's JSON is shallow
+depth-data_of : (l : Line) → depth (data_of l) ≤ max_depth
+depth-data_of (line.Head axioms budget facts keep repairs version) = depth-head_data axioms budget facts keep repairs version
+depth-data_of (line.Core number kept dropped) = depth-core_data number kept dropped
+depth-data_of (line.Answer brave ar iar cores names tuple) = depth-answer_data brave ar iar cores names tuple
+depth-data_of (line.End answers brave ar iar undecided) = depth-end_data answers brave ar iar undecided
+
+-- a well-formed line's JSON gives back the line
+line_at-data_of : (l : Line) → IsWellFormed l → line_at (data_of l) ≡ Some l
+unfolding line_at
+line_at-data_of (line.Head axioms budget facts keep repairs version) h = head_at-head_data axioms budget facts keep repairs version h
+line_at-data_of (line.Core number kept dropped) h = core_at-core_data number kept dropped h
+line_at-data_of (line.Answer brave ar iar cores names tuple) h = answer_at-answer_data brave ar iar cores names tuple h
+line_at-data_of (line.End answers brave ar iar undecided) h = end_at-end_data answers brave ar iar undecided h
+
+-- a line that is found by its kind is well formed
+IsWellFormed-line_of_kind : (word : List ℕ) (d : Data) (found : Line) → line_of_kind word d ≡ Some found → IsWellFormed found
+IsWellFormed-line_of_kind word d found e = by (bytes_eq word (codes "head")) (bytes_eq word (codes "core")) (bytes_eq word (codes "answer")) (bytes_eq word (codes "end")) e
+  where
+    by : (head core answer end : Bool)
+        → (if head then head_at d else if core then core_at d else if answer then answer_at d else if end then end_at d else None) ≡ Some found → IsWellFormed found
+    by true core answer end e = IsWellFormed-head_at d found e
+    by false true answer end e = IsWellFormed-core_at d found e
+    by false false true end e = IsWellFormed-answer_at d found e
+    by false false false true e = IsWellFormed-end_at d found e
+    by false false false false e = cc e
+
+-- ALL KINDS
+
+-- what the reader finds is right
+pub IsWellFormed-line_at : (d : Data) (found : Line) → line_at d ≡ Some found → IsWellFormed found
+unfolding line_at
+IsWellFormed-line_at d found e = option_and_then_some (λ word. line_of_kind word d) (word_at (codes "k") d) found e (λ word word_is e. IsWellFormed-line_of_kind word d found e)
+
+-- the text that is printed for the line's JSON
+pub text_of-printed : (l : Line) (d : Data) (text : List ℕ) → d ≡ data_of l → (has_float d ≡ false → text ≡ compact_text d) → text ≡ text_of l
+unfolding text_of
+text_of-printed l d text e printed = printed (rw e (has_float-data_of l)) ∙ ap compact_text e
+
+-- a line's text reads as its JSON
+pub read-text_of : (l : Line) → IsWellFormed l → read (text_of l) ≡ Some (data_of l)
+unfolding text_of
+read-text_of l h = read-compact_text (data_of l) (IsPlain-data_of l h) (depth-data_of l)
+
+-- a line's text is UTF-8
+pub IsUtf8-text_of : (l : Line) → IsWellFormed l → IsUtf8 (text_of l)
+unfolding text_of
+IsUtf8-text_of l h = IsUtf8-compact_text (data_of l) (IsPlain-data_of l h)
+
+-- a line's text has no line feed
+pub none-text_of : (l : Line) → IsWellFormed l → has_line_feed (text_of l) ≡ false
+unfolding text_of
+none-text_of l h = none-compact_text (data_of l) (IsPlain-data_of l h)
+
+-- a line's text is read
+pub not_refused : (l : Line) (bytes : List ℕ) → IsWellFormed l → bytes ≡ text_of l → (IsUtf8 bytes → read bytes ≡ None) → ⊥
+not_refused l bytes right e none =
+    let gone : read (text_of l) ≡ None = rw e at (none (rw e (IsUtf8-text_of l right))) in
+    let both : None ≡ Some (data_of l) = sym gone ∙ read-text_of l right in
+    cc both
+
+-- what is read of a line's text has the line
+pub line_at-read : (l : Line) (bytes : List ℕ) (d : Data) → IsWellFormed l → bytes ≡ text_of l → read bytes ≡ Some d → line_at d ≡ Some l
+line_at-read l bytes d right e h =
+    let both : Some d ≡ Some (data_of l) = sym h ∙ ap read e ∙ read-text_of l right in
+    let same : d ≡ data_of l = cc both in
+    rw same (line_at-data_of l right)
+
+-- bytes equal themselves
+pub bytes_eq-same : (bytes : List ℕ) → bytes_eq bytes bytes ≡ true
+bytes_eq-same bytes = (bytes_eq-Decides bytes bytes).1 refl
+
+-- a text gives back its line
+pub line_of-text_of : (l : Line) → IsWellFormed l → line_of (text_of l) ≡ Some l
+unfolding line_of
+line_of-text_of l right =
+    rw (read-text_of l right, line_at-data_of l right, bytes_eq-same (text_of l)) refl
+
+-- the line of some bytes is right, and they are its text
+pub line_of-sound : (bytes : List ℕ) (l : Line) → line_of bytes ≡ Some l → IsWellFormed l × (bytes ≡ text_of l)
+unfolding line_of
+line_of-sound bytes l e =
+    option_and_then_some (λ l. if bytes_eq (text_of l) bytes then Some l else None) (option_and_then line_at (read bytes)) l e (λ found found_is e.
+    option_and_then_some line_at (read bytes) found found_is (λ d d_is at. by found (IsWellFormed-line_at d found at) (bytes_eq (text_of found) bytes) refl e))
+  where
+    by : (found : Line) → IsWellFormed found → (b : Bool) → bytes_eq (text_of found) bytes ≡ b → (if b then Some found else None) ≡ Some l → IsWellFormed l × (bytes ≡ text_of l)
+    by found right true h e =
+        let same : found ≡ l = cc e in
+        rw (← same) (right, sym ((bytes_eq-Decides (text_of found) bytes).0 h))
+    by found right false h e = cc e
+
+-- well-formed lines with equal texts are equal
+pub equal_texts : (one other : Line) → IsWellFormed one → IsWellFormed other → text_of one ≡ text_of other → one ≡ other
+equal_texts one other right also e =
+    let both : Some one ≡ Some other = sym (line_of-text_of one right) ∙ ap line_of e ∙ line_of-text_of other also in
+    cc both

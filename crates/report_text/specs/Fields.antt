@@ -1,0 +1,77 @@
+-- What the fields of a line are as JSON: numbers, words, and arrays of numbers and of texts.
+use Rattle.std.specs.Prelude.{ℕ, ◌^◌, List, [], ◌∷◌, map, Option, Some, None, option_and_then, option_map, if◌then◌else◌, nat_lt}
+use Rattle.std.specs.Str.{is_utf8}
+use Rattle.serde_json.specs.Data.{Data, number, unsigned, string, array, Items, no_items, item}
+use Rattle.serde_json.specs.Find.{get, as_number, as_u64, as_str, as_array}
+use Rattle.serde_json.specs.View.{items_of}
+
+-- PRINTED
+
+-- a number
+abbrev pub number_data : ℕ → Data
+number_data n = number (unsigned n)
+
+-- an array of numbers
+abbrev pub numbers_data : List ℕ → Data
+numbers_data numbers = array (items_of (map number_data numbers))
+
+-- an array of texts
+abbrev pub texts_data : List (List ℕ) → Data
+texts_data texts = array (items_of (map string texts))
+
+-- READ
+
+-- the number, where it is below the bound
+abbrev pub if_below : ℕ → ℕ → Option ℕ
+if_below bound n = if nat_lt n bound then Some n else None
+
+-- the bytes, where they are UTF-8
+abbrev pub if_text : List ℕ → Option (List ℕ)
+if_text bytes = if is_utf8 bytes then Some bytes else None
+
+-- the value as a number below 2^64
+abbrev pub long_of : Data → Option ℕ
+long_of d = option_and_then (if_below (2 ^ 64)) (option_and_then as_u64 (as_number d))
+
+-- the value as a number below 2^32
+abbrev pub id_of : Data → Option ℕ
+id_of d = option_and_then (if_below (2 ^ 32)) (option_and_then as_u64 (as_number d))
+
+-- the value as a text
+abbrev pub text_in : Data → Option (List ℕ)
+text_in d = option_and_then if_text (as_str d)
+
+-- what each item is, where each is something
+abbrev pub each_of : {X : Type 0} → (Data → Option X) → Items → Option (List X)
+each_of f no_items = Some []
+each_of f (item d ds) = option_and_then (λ x. option_map (λ xs. x ∷ xs) (each_of f ds)) (f d)
+
+-- WHAT STANDS UNDER A KEY
+
+-- the number below 2^64
+abbrev pub long_at : List ℕ → Data → Option ℕ
+long_at key d = option_and_then long_of (get key d)
+
+-- the number below 2^32
+abbrev pub id_at : List ℕ → Data → Option ℕ
+id_at key d = option_and_then id_of (get key d)
+
+-- the string, whatever its bytes
+abbrev pub word_at : List ℕ → Data → Option (List ℕ)
+word_at key d = option_and_then as_str (get key d)
+
+-- the items of the array
+abbrev pub items_at : List ℕ → Data → Option Items
+items_at key d = option_and_then as_array (get key d)
+
+-- the numbers below 2^64 in the array
+abbrev pub longs_at : List ℕ → Data → Option (List ℕ)
+longs_at key d = option_and_then (each_of long_of) (items_at key d)
+
+-- the numbers below 2^32 in the array
+abbrev pub ids_at : List ℕ → Data → Option (List ℕ)
+ids_at key d = option_and_then (each_of id_of) (items_at key d)
+
+-- the texts in the array
+abbrev pub texts_at : List ℕ → Data → Option (List (List ℕ))
+texts_at key d = option_and_then (each_of text_in) (items_at key d)

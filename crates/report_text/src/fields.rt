@@ -1,0 +1,153 @@
+//! What lines are made of as JSON: numbers, words, and arrays of numbers and of texts.
+
+ghost use Rattle.std.specs.Prelude.{◌≡◌, IfOk, option_map};
+ghost use Rattle.serde_json.specs.View.{view, items_view};
+ghost use Rattle.report_text.specs.Fields.{numbers_data, texts_data, long_of, id_of, text_in, long_at, id_at, word_at, items_at, longs_at, ids_at, texts_at};
+ghost use Rattle.std.specs.Prelude.{map, string_bytes};
+
+use cq_terms::{Ids, Longs, NoMemory, Texts};
+use serde_json::Value;
+use std::alloc::{AllocError, Global};
+
+/// An array of numbers below 2^32.
+pub fn ids_value(alloc: Global, ids: &[u32]) -> Result<Value, AllocError>
+    ensures exact { IfOk result (λ v. view v ≡ numbers_data ids.now) }
+{
+    let mut items = Vec::new(alloc);
+    for id in ids {
+        items.push(Value::from(*id))?;
+    }
+    Ok(Value::Array(items))
+}
+
+/// An array of numbers below 2^64.
+pub fn longs_value(alloc: Global, longs: &[u64]) -> Result<Value, AllocError>
+    ensures exact { IfOk result (λ v. view v ≡ numbers_data longs.now) }
+{
+    let mut items = Vec::new(alloc);
+    for long in longs {
+        items.push(Value::from(*long))?;
+    }
+    Ok(Value::Array(items))
+}
+
+/// An array of texts.
+pub fn texts_value(alloc: Global, texts: &[String]) -> Result<Value, AllocError>
+    ensures exact { IfOk result (λ v. view v ≡ texts_data (map string_bytes texts.now)) }
+{
+    let mut items = Vec::new(alloc);
+    for text in texts {
+        items.push(Value::String(String::from_str(alloc, text.as_str())?))?;
+    }
+    Ok(Value::Array(items))
+}
+
+/// The value as a number below 2^64.
+fn long_of(value: &Value) -> Option<u64>
+    ensures exact { result ≡ long_of (view value.now) }
+{
+    value.as_u64()
+}
+
+/// The value as a number below 2^32.
+fn id_of(value: &Value) -> Option<u32>
+    ensures exact { result ≡ id_of (view value.now) }
+{
+    let number = value.as_u64()?;
+    if number < 1 << 32 {
+        Some(number as u32)
+    } else {
+        None
+    }
+}
+
+/// The value as a text.
+fn text_in(value: &Value) -> Option<&str>
+    ensures exact { option_map (λ s. s.now) result ≡ text_in (view value.now) }
+{
+    match value {
+        Value::String(text) => Some(text.as_str()),
+        _ => None,
+    }
+}
+
+/// The number below 2^64 under a key.
+pub fn long_at(value: &Value, key: &str) -> Option<u64>
+    ensures exact { result ≡ long_at key.now (view value.now) }
+{
+    long_of(value.get(key)?)
+}
+
+/// The number below 2^32 under a key.
+pub fn id_at(value: &Value, key: &str) -> Option<u32>
+    ensures exact { result ≡ id_at key.now (view value.now) }
+{
+    id_of(value.get(key)?)
+}
+
+/// The text under a key.
+pub fn word_at<'a>(value: &'a Value, key: &str) -> Option<&'a str>
+    ensures exact { option_map (λ s. s.now) result ≡ word_at key.now (view value.now) }
+{
+    value.get(key)?.as_str()
+}
+
+/// The items of the array under a key.
+fn items_at<'a>(value: &'a Value, key: &str) -> Option<&'a [Value]>
+    ensures exact { option_map (λ items. items_view items.now) result
+        ≡ items_at key.now (view value.now) }
+{
+    let items = value.get(key)?.as_array()?;
+    Some(items.as_slice())
+}
+
+/// The numbers below 2^64 in the array under a key.
+pub fn longs_at(alloc: Global, value: &Value, key: &str) -> Result<Option<Longs>, NoMemory>
+    ensures exact { IfOk result (λ o. o ≡ longs_at key.now (view value.now)) }
+{
+    let Some(items) = items_at(value, key) else {
+        return Ok(None);
+    };
+    let mut longs = Longs::new(alloc);
+    for item in items {
+        match long_of(item) {
+            Some(long) => longs.push(long)?,
+            None => return Ok(None),
+        }
+    }
+    Ok(Some(longs))
+}
+
+/// The numbers below 2^32 in the array under a key.
+pub fn ids_at(alloc: Global, value: &Value, key: &str) -> Result<Option<Ids>, NoMemory>
+    ensures exact { IfOk result (λ o. o ≡ ids_at key.now (view value.now)) }
+{
+    let Some(items) = items_at(value, key) else {
+        return Ok(None);
+    };
+    let mut ids = Ids::new(alloc);
+    for item in items {
+        match id_of(item) {
+            Some(id) => ids.push(id)?,
+            None => return Ok(None),
+        }
+    }
+    Ok(Some(ids))
+}
+
+/// The texts in the array under a key.
+pub fn texts_at(alloc: Global, value: &Value, key: &str) -> Result<Option<Texts>, NoMemory>
+    ensures exact { IfOk result (λ o. o ≡ texts_at key.now (view value.now)) }
+{
+    let Some(items) = items_at(value, key) else {
+        return Ok(None);
+    };
+    let mut texts = Texts::new(alloc);
+    for item in items {
+        match text_in(item) {
+            Some(text) => texts.push(String::from_str(alloc, text)?)?,
+            None => return Ok(None),
+        }
+    }
+    Ok(Some(texts))
+}
