@@ -1,8 +1,8 @@
 -- Subsumption of concept names can be decided, and it tells the verdicts.
-use Rattle.std.proofs.Common.{◌≡◌, ℕ, zero, suc, ◌⊎◌, ◌↔◌, inl, inr, List, [], ◌∷◌, All, Contains, refl, sym, subst, ap, ◌∙◌, Bool, true, false, ◌&&◌, ◌||◌, ◌==◌, eqb-true, eq-eqb, true≢false, slice_get, Some}
-use Rattle.std.proofs.lemmas.Bool.{or_cases}
+use Rattle.std.proofs.Common.{◌≡◌, ℕ, zero, suc, ◌<◌, ◌≤◌, ◌⊎◌, ◌↔◌, inl, inr, List, [], ◌∷◌, All, Contains, refl, sym, subst, ap, ◌∙◌, Bool, true, false, ◌&&◌, ◌||◌, ◌==◌, eqb-true, eq-eqb, true≢false, length, slice_get, Some, not, arith}
+use Rattle.std.proofs.lemmas.Bool.{or_cases, cases_Bool}
 use Rattle.std.proofs.lemmas.List.Elements.{All-contains}
-use Rattle.std.proofs.lemmas.Option.{slice_get_within, get_or_from_slice_get}
+use Rattle.std.proofs.lemmas.Option.{slice_get_within, slice_get_cases, get_or_from_slice_get}
 use Rattle.cq_terms.specs.declared.axioms.Basic.TheVariants.{Concept, Has}
 use Rattle.cq_terms.specs.declared.axioms.Axiom.{Axiom}
 use Rattle.cq_terms.specs.declared.axioms.Axiom.TheVariants.{Sub, Disjoint, SubRole, DisjointRole}
@@ -13,14 +13,14 @@ use Rattle.cq_terms.specs.declared.query.Term.TheVariants.{Var}
 use Rattle.cq_terms.specs.declared.query.QAtom.TheVariants as atom
 use Rattle.cq_terms.specs.Knowledge.{Knowledge}
 use Rattle.cq_meaning.specs.Candidates.{Every, concept_query, IsWitness}
-use Rattle.cq_meaning.specs.ConceptNames.{IsOfNames, IsOfName, Includes, IsSubsumed, IsUnsatisfiable, PutsInto, PutsSafelyInto, TellsIncluded, splits, meets, own_test, clash_test}
-use Rattle.cq_meaning.specs.Conflicts.{Only, FactsEntail, IsSelfInconsistent, TellConflicts}
+use Rattle.cq_meaning.specs.ConceptNames.{IsOfNames, IsOfName, Includes, IsSubsumed, IsUnsatisfiable, PutsInto, PutsSafelyInto, AreApart, ClashByNames, TellsIncluded, splits, meets, own_test, clash_test}
+use Rattle.cq_meaning.specs.Conflicts.{Only, Both, FactsEntail, IsSelfInconsistent, Conflict, TellConflicts}
 use Rattle.cq_meaning.specs.Laws.{VerdictsByNames}
 use Rattle.cq_meaning.specs.Repairs.{IsBrave}
 use Rattle.cq_meaning.proofs.Members.{Contains-head, Contains-later, Contains-cases, Contains-nil}
 use Rattle.cq_meaning.proofs.Stages.{Consistent-stable}
-use Rattle.cq_meaning.proofs.Extension.{and_both, and_true, or_right}
-use Rattle.cq_meaning.proofs.NameConflicts.{some_passes, passing, names_tell, name_entailed}
+use Rattle.cq_meaning.proofs.Extension.{AreConsistent-within, Conflict-sym, and_both, and_true, or_right}
+use Rattle.cq_meaning.proofs.NameConflicts.{some_passes, passing, not_true, names_tell, name_entailed}
 use Rattle.cq_meaning.proofs.Single.{brave_by_one}
 
 -- the two names are joined by the inclusion, given which names are joined without it
@@ -195,3 +195,101 @@ module _ (kb : Knowledge) (all_names : All IsOfNames kb.axioms) (all_facts : All
     witness = witness concept t;
     brave = brave concept t;
   }
+
+  -- names that meet are apart
+  apart : (a b : ℕ) → meets included kb.axioms a b ≡ true → AreApart kb.axioms a b
+  apart a b t = let w = passing (λ rule. splits included rule a b) kb.axioms t in go w.0 w.1 w.2
+    where
+      go : (rule : Axiom) → Contains kb.axioms rule → splits included rule a b ≡ true → AreApart kb.axioms a b
+      go (Disjoint (Concept x) (Concept y)) m t = elim (or_cases (included a x && included b y) (included b x && included a y) t) [
+        | inl h ↦ let p = and_both (included a x) (included b y) h in (x, y, subsumed_sound kb.axioms a x p.0, subsumed_sound kb.axioms b y p.1, inl m)
+        | inr h ↦ let p = and_both (included b x) (included a y) h in (y, x, subsumed_sound kb.axioms a y p.1, subsumed_sound kb.axioms b x p.0, inr m)
+      ]
+      go (Disjoint (Concept x) (Has r)) m t = absurd (true≢false (sym t))
+      go (Disjoint (Has r) y) m t = absurd (true≢false (sym t))
+      go (Sub x y) m t = absurd (true≢false (sym t))
+      go (SubRole r q) m t = absurd (true≢false (sym t))
+      go (DisjointRole r q) m t = absurd (true≢false (sym t))
+
+  -- and names that are apart meet
+  meeting_apart : (a b : ℕ) → AreApart kb.axioms a b → meets included kb.axioms a b ≡ true
+  meeting_apart a b (x, y, p, q, inl m) =
+      some_passes (λ rule. splits included rule a b) kb.axioms (Disjoint (Concept x) (Concept y)) m (
+      or_left (included a x && included b y) (included b x && included a y) (and_true (included a x) (included b y) (subsumed_complete kb.axioms a x p) (subsumed_complete kb.axioms b y q))
+      )
+  meeting_apart a b (x, y, p, q, inr m) =
+      some_passes (λ rule. splits included rule a b) kb.axioms (Disjoint (Concept y) (Concept x)) m (
+      or_right (included a y && included b x) (included b y && included a x) (and_true (included b y) (included a x) (subsumed_complete kb.axioms b y q) (subsumed_complete kb.axioms a x p))
+      )
+
+  -- a number in a conflict is that of a fact
+  conflict_within : (i j : ℕ) → Conflict kb i j → i < length kb.facts
+  conflict_within i j w = elim (slice_get_cases kb.facts i).1 [
+    | inl p ↦ p.1
+    | inr p ↦ absurd (w.together (AreConsistent-within kb (Both i j) (Only j) (λ l k s. here l k p.0 s) w.right))
+  ]
+    where
+      here : (l : ℕ) → l < length kb.facts → length kb.facts ≤ i → (l ≡ i) ⊎ (l ≡ j) → l ≡ j
+      here l k p (inl e) = absurd (omega (arith, k, p, e))
+      here l k p (inr e) = e
+
+  -- the fact of a number
+  fact_at : (i : ℕ) → i < length kb.facts → (a : ℕ) × (t : ℕ) × (slice_get kb.facts i ≡ Some (fact.Concept a t))
+  fact_at i l = elim (slice_get_cases kb.facts i).1 [
+    | inl p ↦ named p.0 (facts i p.0 p.2) p.2
+    | inr p ↦ absurd (omega (arith, l, p.0))
+  ]
+    where
+      named : (f : Fact) → IsOfName f → slice_get kb.facts i ≡ Some f → (a : ℕ) × (t : ℕ) × (slice_get kb.facts i ≡ Some (fact.Concept a t))
+      named (fact.Concept a t) u e = (a, t, e)
+      named (fact.Link p c d) u e = absurd u
+
+  -- the test of two facts, by their names
+  test_of : (i j a b t u : ℕ) → slice_get kb.facts i ≡ Some (fact.Concept a t) → slice_get kb.facts j ≡ Some (fact.Concept b u)
+      → clash_test included kb.axioms (slice_get kb.facts i) (slice_get kb.facts j) ≡ (t == u && (not (meets included kb.axioms a a) && (not (meets included kb.axioms b b) && meets included kb.axioms a b)))
+  test_of i j a b t u e d = ap (λ o. clash_test included kb.axioms o (slice_get kb.facts j)) e ∙ ap (clash_test included kb.axioms (Some (fact.Concept a t))) d
+
+  safe_not_met : (a : ℕ) → ¬ IsUnsatisfiable kb.axioms a → not (meets included kb.axioms a a) ≡ true
+  safe_not_met a safe = elim (cases_Bool (meets included kb.axioms a a)) [ inl t ↦ absurd (safe (met a t)) | inr f ↦ ap not f ]
+
+  -- two facts conflict exactly where they clash by their names
+  pub conflicts_by_names : (i j : ℕ) → Conflict kb i j ↔ ClashByNames kb i j
+  conflicts_by_names i j = (to, from)
+    where
+      of_test : (a b t u : ℕ) → slice_get kb.facts i ≡ Some (fact.Concept a t) → slice_get kb.facts j ≡ Some (fact.Concept b u) → Conflict kb i j
+          → (t == u && (not (meets included kb.axioms a a) && (not (meets included kb.axioms b b) && meets included kb.axioms a b))) ≡ true → ClashByNames kb i j
+      of_test a b t u e d w h =
+          let p = and_both (t == u) (not (meets included kb.axioms a a) && (not (meets included kb.axioms b b) && meets included kb.axioms a b)) h in
+          let q = and_both (not (meets included kb.axioms a a)) (not (meets included kb.axioms b b) && meets included kb.axioms a b) p.1 in
+          let r = and_both (not (meets included kb.axioms b b)) (meets included kb.axioms a b) q.1 in
+          record {
+            different = w.different;
+            left = a;
+            right = b;
+            individual = t;
+            left_fact = e;
+            right_fact = d ∙ ap (λ v. Some (fact.Concept b v)) (sym (eqb-true t u p.0));
+            left_satisfiable = λ s. true≢false (sym (meeting a s) ∙ not_true (meets included kb.axioms a a) q.0);
+            right_satisfiable = λ s. true≢false (sym (meeting b s) ∙ not_true (meets included kb.axioms b b) r.0);
+            apart = apart a b r.1;
+          }
+
+      to : Conflict kb i j → ClashByNames kb i j
+      to w =
+          let il = conflict_within i j w in
+          let jl = conflict_within j i (Conflict-sym kb i j w) in
+          let f = fact_at i il in
+          let g = fact_at j jl in
+          of_test f.0 g.0 f.1 g.1 f.2 g.2 w (sym (test_of i j f.0 g.0 f.1 g.1 f.2 g.2) ∙ (tell.clash_iff i j il jl).1 w)
+
+      from : ClashByNames kb i j → Conflict kb i j
+      from w =
+          let il = slice_get_within kb.facts i (fact.Concept w.left w.individual) w.left_fact in
+          let jl = slice_get_within kb.facts j (fact.Concept w.right w.individual) w.right_fact in
+          let a = w.left in
+          let b = w.right in
+          let same : (w.individual == w.individual) ≡ true = eq-eqb w.individual w.individual refl in
+          let h = and_true (w.individual == w.individual) (not (meets included kb.axioms a a) && (not (meets included kb.axioms b b) && meets included kb.axioms a b)) same
+          (and_true (not (meets included kb.axioms a a)) (not (meets included kb.axioms b b) && meets included kb.axioms a b) (safe_not_met a w.left_satisfiable)
+          (and_true (not (meets included kb.axioms b b)) (meets included kb.axioms a b) (safe_not_met b w.right_satisfiable) (meeting_apart a b w.apart))) in
+          (tell.clash_iff i j il jl).0 (test_of i j a b w.individual w.individual w.left_fact w.right_fact ∙ h)

@@ -1,5 +1,5 @@
 -- Ontologies over concept names alone, and tests that tell their conflicts.
-use Rattle.std.specs.Prelude.{◌≡◌, ℕ, zero, suc, List, Contains, slice_get, Bool, false, not, ◌&&◌, ◌||◌, ◌==◌, Option, Some, IsTrue, ◌↔◌}
+use Rattle.std.specs.Prelude.{◌≡◌, ◌≢◌, ◌⊎◌, ℕ, zero, suc, List, Contains, slice_get, Bool, false, not, ◌&&◌, ◌||◌, ◌==◌, Option, Some, IsTrue, ◌↔◌}
 use Rattle.std.specs.List.{list_any}
 use Rattle.cq_terms.specs.declared.axioms.Basic.TheVariants.{Concept}
 use Rattle.cq_terms.specs.declared.axioms.Axiom.{Axiom}
@@ -40,6 +40,23 @@ PutsInto kb concept t i = (a : ℕ) × (slice_get kb.facts i ≡ Some (fact.Conc
 abbrev pub PutsSafelyInto : Knowledge → ℕ → ℕ → ℕ → Type 0
 PutsSafelyInto kb concept t i = (a : ℕ) × (slice_get kb.facts i ≡ Some (fact.Concept a t)) × IsSubsumed kb.axioms a concept
     × ¬ IsUnsatisfiable kb.axioms a
+
+-- some disjointness has one side that includes the one name, and another that includes the other
+abbrev pub AreApart : List Axiom → ℕ → ℕ → Type 0
+AreApart axioms a b = (x : ℕ) × (y : ℕ) × IsSubsumed axioms a x × IsSubsumed axioms b y
+    × (Contains axioms (Disjoint (Concept x) (Concept y)) ⊎ Contains axioms (Disjoint (Concept y) (Concept x)))
+
+-- two different facts put one individual in satisfiable concept names that are apart
+pub record ClashByNames (kb : Knowledge) (i j : ℕ) : Type 0 where
+  pub different : i ≢ j
+  pub left : ℕ
+  pub right : ℕ
+  pub individual : ℕ
+  pub left_fact : slice_get kb.facts i ≡ Some (fact.Concept left individual)
+  pub right_fact : slice_get kb.facts j ≡ Some (fact.Concept right individual)
+  pub left_satisfiable : ¬ IsUnsatisfiable kb.axioms left
+  pub right_satisfiable : ¬ IsUnsatisfiable kb.axioms right
+  pub apart : AreApart kb.axioms left right
 
 -- the test tells which names the inclusions lead to from the names of the facts
 abbrev pub TellsIncluded : Knowledge → (ℕ → ℕ → Bool) → Type 0

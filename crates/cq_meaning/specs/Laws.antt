@@ -7,8 +7,8 @@ use Rattle.cq_terms.specs.declared.facts.Repairs.TheVariants as mode
 use Rattle.cq_terms.specs.Knowledge.{Knowledge}
 use Rattle.cq_meaning.specs.Candidates.{Every, concept_query, IsWitness}
 use Rattle.cq_meaning.specs.Chase.{Atom, InStage}
-use Rattle.cq_meaning.specs.ConceptNames.{IsOfNames, IsOfName, PutsInto, PutsSafelyInto}
-use Rattle.cq_meaning.specs.Conflicts.{In, Only, facts_in, AreConsistent, FactsEntail, IsConflictFree, TellConflicts}
+use Rattle.cq_meaning.specs.ConceptNames.{IsOfNames, IsOfName, PutsInto, PutsSafelyInto, ClashByNames}
+use Rattle.cq_meaning.specs.Conflicts.{In, Only, facts_in, AreConsistent, FactsEntail, Conflict, IsConflictFree, TellConflicts}
 use Rattle.cq_meaning.specs.Cores.{IsCore}
 use Rattle.cq_meaning.specs.Repairs.{IsRepair, IsChosen, IsAcyclic, IsBrave}
 
@@ -48,3 +48,7 @@ pub record VerdictsByNames (kb : Knowledge) (concept t : ℕ) : Type 0 where
 -- under concept names alone the inclusions and disjointnesses above the names of the facts tell all this
 abbrev pub ConceptNameVerdicts : Type 0
 ConceptNameVerdicts = (kb : Knowledge) → All IsOfNames kb.axioms → All IsOfName kb.facts → (concept t : ℕ) → VerdictsByNames kb concept t
+
+-- under concept names alone two facts conflict exactly where they clash by these
+abbrev pub ConceptNameConflicts : Type 0
+ConceptNameConflicts = (kb : Knowledge) → All IsOfNames kb.axioms → All IsOfName kb.facts → (i j : ℕ) → Conflict kb i j ↔ ClashByNames kb i j

@@ -3,7 +3,7 @@
 #![tactic(auto)]
 
 ghost use Rattle.cq_meaning.specs.Examples.{StaffVerdicts, NullIsInconsistent};
-ghost use Rattle.cq_meaning.specs.Laws.{EachAtomDescends, EachAtomDescendsByNumber, ConsistentByPairs, ExtendsToRepair, CoreExtends, ConceptNameVerdicts};
+ghost use Rattle.cq_meaning.specs.Laws.{EachAtomDescends, EachAtomDescendsByNumber, ConsistentByPairs, ExtendsToRepair, CoreExtends, ConceptNameVerdicts, ConceptNameConflicts};
 
 /// Each atom of a stage of the chase descends from one fact (after Calvanese and others 2007).
 pub fn each_atom_descends()
@@ -35,6 +35,12 @@ pub fn core_extends()
 /// is in a concept by all facts, by one fact and by some repair.
 pub fn concept_name_verdicts()
     ensures { ConceptNameVerdicts }
+{}
+
+/// Under axioms and facts of concept names alone, two facts conflict exactly where they put one individual in satisfiable
+/// names with a disjointness above them.
+pub fn concept_name_conflicts()
+    ensures { ConceptNameConflicts }
 {}
 
 /// The verdicts of the staff register, from the definitions.

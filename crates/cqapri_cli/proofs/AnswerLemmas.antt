@@ -30,6 +30,12 @@ use Rattle.cqapri_cli.specs.Standings.{IsOfNameBelow, AreNamedBelow}
 abbrev pub present : {A : Type 0} → List (Option A) → List A
 present os = filter_map (λ o. o) os
 
+-- they are no more than the places
+pub length-present : {A : Type 0} (os : List (Option A)) → length (present os) ≤ length os
+length-present [] = omega arith
+length-present (None ∷ os) = omega (arith, length-present os)
+length-present (Some x ∷ os) = omega (arith, length-present os)
+
 -- a value that is there, and where it is from
 pub present_from : {A : Type 0} (os : List (Option A)) (x : A) → Contains (present os) x → (i : ℕ) × (slice_get os i ≡ Some (Some x))
 present_from [] x (k, l, e) = absurd (omega (arith, l))
@@ -89,7 +95,7 @@ ascending (Some y ∷ os) n at =
         subst (λ z. slice_cmp nat_cmp (y.individual ∷ []) z ≡ Less) w.2 (before y.individual w.0.individual (omega (arith, at 0 y refl, at (suc v.0) w.0 v.1)))
 
 -- what is below a bound is of concept names
-names_of : (n : ℕ) (rule : Axiom) → IsOfNamesBelow n rule → IsOfNames rule
+pub names_of : (n : ℕ) (rule : Axiom) → IsOfNamesBelow n rule → IsOfNames rule
 names_of n (Sub (Concept a) (Concept b)) h = tt
 names_of n (Sub (Concept a) (Has r)) h = h
 names_of n (Sub (Has r) b) h = h
@@ -99,12 +105,12 @@ names_of n (Disjoint (Has r) b) h = h
 names_of n (SubRole r q) h = h
 names_of n (DisjointRole r q) h = h
 
-name_of : (n m : ℕ) (f : Fact) → IsOfNameBelow n m f → IsOfName f
-name_of n m (fact.Concept a c) h = tt
-name_of n m (fact.Link p c d) h = h
+pub name_of_fact : (n m : ℕ) (f : Fact) → IsOfNameBelow n m f → IsOfName f
+name_of_fact n m (fact.Concept a c) h = tt
+name_of_fact n m (fact.Link p c d) h = h
 
 -- a fact of the table, by its number
-fact_below : (n m : ℕ) (facts : List Fact) → All (IsOfNameBelow n m) facts → (i a t : ℕ) → slice_get facts i ≡ Some (fact.Concept a t) → (a < n) × (t < m)
+pub fact_below : (n m : ℕ) (facts : List Fact) → All (IsOfNameBelow n m) facts → (i a t : ℕ) → slice_get facts i ≡ Some (fact.Concept a t) → (a < n) × (t < m)
 fact_below n m facts h i a t e =
     subst (IsOfNameBelow n m) (get_or_from_slice_get facts i (fact.Concept a t) (fact.Concept a t) e) (h i (fact.Concept a t) (slice_get_within facts i (fact.Concept a t) e))
 
@@ -114,7 +120,7 @@ named_below n m facts h i a t e = (fact_below n m facts h i a t e).0
 module _ (kb : Knowledge) (concept n m : ℕ) (names : All (IsOfNamesBelow n) kb.axioms) (facts : All (IsOfNameBelow n m) kb.facts) (findings : List (Option Answer)) (found : AreFindings kb concept m (length kb.facts) findings) where
   verdicts : (t : ℕ) → VerdictsByNames kb concept t
   verdicts t =
-      verdicts_by_names kb (λ k d l. names_of n (get_or kb.axioms k d) (names k d l)) (λ k d l. name_of n m (get_or kb.facts k d) (facts k d l)) concept t
+      verdicts_by_names kb (λ k d l. names_of n (get_or kb.axioms k d) (names k d l)) (λ k d l. name_of_fact n m (get_or kb.facts k d) (facts k d l)) concept t
 
   -- a fact that puts an individual is one of the table
   within : (t i : ℕ) → PutsInto kb concept t i → (i < length kb.facts) × (t < m)

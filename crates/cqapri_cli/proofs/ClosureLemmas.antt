@@ -9,7 +9,7 @@ use Rattle.std.proofs.lemmas.List.{get_or-set_same, get_or-set_other, take_all}
 use Rattle.std.proofs.lemmas.List.Elements.{Contains-push_cases, Contains-append_left, Contains-push, Contains-get_or, All-contains}
 use Rattle.cq_terms.specs.declared.axioms.Axiom.{Axiom}
 use Rattle.cq_meaning.specs.ConceptNames.{Includes, IsSubsumed}
-use Rattle.cqapri_cli.specs.Hierarchies.{IsOfNamesBelow, AreWithin, AreLists, AddsPair, inclusion, disjointness, names_at, with_entry}
+use Rattle.cqapri_cli.specs.Hierarchies.{IsOfNamesBelow, AreWithin, AreLists, AddsPair, LeadsIn, IsLedTo, inclusion, disjointness, names_at, with_entry}
 use Rattle.cqapri_cli.specs.NameSets.{with_name}
 use Rattle.cqapri_cli.proofs.ListLemmas.{Contains-take_cases, Contains-take_old, Contains-take_new}
 use Rattle.cqapri_cli.proofs.NameSetLemmas.{Contains-with_names, get_or-with_names}
@@ -54,7 +54,7 @@ pub disjointness-same : (a b x y : ℕ) → disjointness a b ≡ disjointness x 
 disjointness-same a b x y e = (cc, cc)
 
 -- empty lists have no pair
-names_at-none : (n a : ℕ) → names_at (replicate n []) a ≡ []
+pub names_at-none : (n a : ℕ) → names_at (replicate n []) a ≡ []
 names_at-none zero a = refl
 names_at-none (suc n) zero = refl
 names_at-none (suc n) (suc a) = names_at-none n a
@@ -90,58 +90,77 @@ AreWithin-lists make n below axioms lists names size h = record {
 }
 
 -- the first names are closed: each name that the lists have for them is among the names, and all are led to
-pub record Closes (above : List (List ℕ)) (name : ℕ) (names : List ℕ) (next : ℕ) : Type 0 where
-  pub start : Contains names name
-  pub sound : (axioms : List Axiom) → AreLists inclusion axioms above → (b : ℕ) → Contains names b → IsSubsumed axioms name b
-  pub closed : (k b : ℕ) → k < next → Contains (names_at above (get_or names k 0)) b → Contains names b
+pub record Closes (lists : List (List ℕ)) (starts names : List ℕ) (next : ℕ) : Type 0 where
+  pub start : (b : ℕ) → Contains starts b → Contains names b
+  pub sound : (b : ℕ) → Contains names b → IsLedTo lists starts b
+  pub closed : (k b : ℕ) → k < next → Contains (names_at lists (get_or names k 0)) b → Contains names b
   pub before : next ≤ length names
 
-pub Closes-none : (above : List (List ℕ)) (name : ℕ) (names : List ℕ) → names ≡ name ∷ [] → Closes above name names 0
-Closes-none above name names e = subst (λ ns. Closes above name ns 0) (sym e) (record {
-  start = (0, omega arith, refl);
-  sound = λ axioms lists b c. (0, only b c);
+pub Closes-none : (lists : List (List ℕ)) (starts : List ℕ) → Closes lists starts starts 0
+Closes-none lists starts = record {
+  start = λ b c. c;
+  sound = λ b c. (b, c, 0, refl);
   closed = λ k b l. absurd (omega (arith, l));
   before = omega arith;
-})
-  where
-    only : (b : ℕ) → Contains (name ∷ []) b → name ≡ b
-    only b (zero, l, e) = e
-    only b (suc k, l, e) = absurd (omega (arith, l))
+}
 
-pub Closes-more : (above : List (List ℕ)) (name : ℕ) (names : List ℕ) (next : ℕ) (more : List ℕ) → next < length names → more ≡ names_at above (get_or names next 0) → Closes above name names next → Closes above name (fold with_name names more) (next + 1)
-Closes-more above name names next more l e h = record {
-  start = (Contains-with_names more names name).1 (inl h.start);
-  sound = λ axioms lists b c. sound axioms lists b ((Contains-with_names more names b).0 c);
-  closed = λ k b m c. (Contains-with_names more names b).1 (closed k b (cases_eq k next) m (subst (λ a. Contains (names_at above a) b) (get_or-with_names more names k 0 (omega (arith, m))).0 c));
+pub Closes-more : (lists : List (List ℕ)) (starts names : List ℕ) (next : ℕ) (more : List ℕ) → next < length names → more ≡ names_at lists (get_or names next 0) → Closes lists starts names next → Closes lists starts (fold with_name names more) (next + 1)
+Closes-more lists starts names next more l e h = record {
+  start = λ b c. (Contains-with_names more names b).1 (inl (h.start b c));
+  sound = λ b c. sound b ((Contains-with_names more names b).0 c);
+  closed = λ k b m c. (Contains-with_names more names b).1 (closed k b (cases_eq k next) m (subst (λ a. Contains (names_at lists a) b) (get_or-with_names more names k 0 (omega (arith, m))).0 c));
   before = omega (arith, (get_or-with_names more names next 0 l).1);
 }
   where
-    sound : (axioms : List Axiom) → AreLists inclusion axioms above → (b : ℕ) → Contains names b ⊎ Contains more b → IsSubsumed axioms name b
-    sound axioms lists b (inl c) = h.sound axioms lists b c
-    sound axioms lists b (inr c) =
-        let from = h.sound axioms lists (get_or names next 0) (Contains-get_or names next 0 l) in
-        (suc from.0, (get_or names next 0, from.1, (lists (get_or names next 0) b).0 (subst (λ ns. Contains ns b) e c)))
+    sound : (b : ℕ) → Contains names b ⊎ Contains more b → IsLedTo lists starts b
+    sound b (inl c) = h.sound b c
+    sound b (inr c) =
+        let from = h.sound (get_or names next 0) (Contains-get_or names next 0 l) in
+        (from.0, from.1, suc from.2, (get_or names next 0, from.3, subst (λ ns. Contains ns b) e c))
 
-    closed : (k b : ℕ) → (k ≡ next) ⊎ (k ≡ next → ⊥) → k < next + 1 → Contains (names_at above (get_or names k 0)) b → Contains names b ⊎ Contains more b
+    closed : (k b : ℕ) → (k ≡ next) ⊎ (k ≡ next → ⊥) → k < next + 1 → Contains (names_at lists (get_or names k 0)) b → Contains names b ⊎ Contains more b
     closed k b (inl d) m c =
-        inr (subst (λ ns. Contains ns b) (sym e) (subst (λ j. Contains (names_at above (get_or names j 0)) b) d c))
+        inr (subst (λ ns. Contains ns b) (sym e) (subst (λ j. Contains (names_at lists (get_or names j 0)) b) d c))
     closed k b (inr n) m c = inl (h.closed k b (omega (arith, m)) c)
 
-pub Closes-all : (above : List (List ℕ)) (name : ℕ) (names : List ℕ) (next : ℕ) → length names ≤ next → Closes above name names next → (axioms : List Axiom) → AreLists inclusion axioms above → (b : ℕ) → Contains names b ↔ IsSubsumed axioms name b
-Closes-all above name names next l h axioms lists b = (h.sound axioms lists b, λ s. reached s.0 b s.1)
+pub Closes-all : (lists : List (List ℕ)) (starts names : List ℕ) (next : ℕ) → length names ≤ next → Closes lists starts names next → (b : ℕ) → Contains names b ↔ IsLedTo lists starts b
+Closes-all lists starts names next l h b = (h.sound b, λ (a, s, n, leads). reached a s n b leads)
   where
-    reached : (n b : ℕ) → Includes axioms n name b → Contains names b
-    reached zero b e = subst (Contains names) e h.start
-    reached (suc n) b (c, i, m) = go (reached n c i)
+    reached : (a : ℕ) → Contains starts a → (n b : ℕ) → LeadsIn lists n a b → Contains names b
+    reached a s zero b e = subst (Contains names) e (h.start a s)
+    reached a s (suc n) b (c, i, m) = go (reached a s n c i)
       where
         go : Contains names c → Contains names b
         go (k, kl, e) =
-            h.closed k b (omega (arith, kl)) (subst (λ a. Contains (names_at above a) b) (sym (at names k kl e)) ((lists c b).1 m))
+            h.closed k b (omega (arith, kl)) (subst (λ a. Contains (names_at lists a) b) (sym (at names k kl e)) m)
           where
             at : (xs : List ℕ) (k : ℕ) → k < length xs → get_or xs k c ≡ c → get_or xs k 0 ≡ c
             at [] k l e = absurd (omega arith)
             at (x ∷ xs) zero l e = e
             at (x ∷ xs) (suc k) l e = at xs k (omega arith) e
+
+-- with the lists of the inclusions, entries lead exactly where inclusions do
+LeadsIn-includes : (axioms : List Axiom) (above : List (List ℕ)) → AreLists inclusion axioms above → (n a b : ℕ) → LeadsIn above n a b → Includes axioms n a b
+LeadsIn-includes axioms above h zero a b e = e
+LeadsIn-includes axioms above h (suc n) a b (c, i, m) = (c, LeadsIn-includes axioms above h n a c i, (h c b).0 m)
+
+includes-LeadsIn : (axioms : List Axiom) (above : List (List ℕ)) → AreLists inclusion axioms above → (n a b : ℕ) → Includes axioms n a b → LeadsIn above n a b
+includes-LeadsIn axioms above h zero a b e = e
+includes-LeadsIn axioms above h (suc n) a b (c, i, m) = (c, includes-LeadsIn axioms above h n a c i, (h c b).1 m)
+
+-- the only member of a list of one
+only_member : (x b : ℕ) → Contains (x ∷ []) b → x ≡ b
+only_member x b (zero, l, e) = e
+only_member x b (suc k, l, e) = absurd (omega (arith, l))
+
+-- from one name entries lead to those that subsume it
+pub led_from_one : (axioms : List Axiom) (above : List (List ℕ)) → AreLists inclusion axioms above → (starts : List ℕ) (name b : ℕ) → starts ≡ name ∷ [] → IsLedTo above starts b ↔ IsSubsumed axioms name b
+led_from_one axioms above h starts name b e = (to, λ s. (name, subst (λ ns. Contains ns name) (sym e) (0, omega arith, refl), s.0, includes-LeadsIn axioms above h s.0 name b s.1))
+  where
+    to : IsLedTo above starts b → IsSubsumed axioms name b
+    to (a, c, n, i) =
+        let same : name ≡ a = only_member name a (subst (λ ns. Contains ns a) e c) in
+        (n, LeadsIn-includes axioms above h n name b (subst (λ x. LeadsIn above n x b) (sym same) i))
 
 -- the names that the lists have for a name are below the bound
 pub names_at_within : (n : ℕ) (lists : List (List ℕ)) (from : ℕ) (names : List ℕ) → AreWithin n lists → names ≡ names_at lists from → All (λ name. name < n) names

@@ -1,5 +1,7 @@
 pub mod AnswerLemmas
+pub mod ApartLemmas
 pub mod ClosureLemmas
+pub mod ConflictLemmas
 pub mod CutLemmas
 pub mod DistinctFacts
 pub mod FactCuts
@@ -12,7 +14,11 @@ pub mod NameSetLemmas
 pub mod NumberedLemmas
 pub mod PathLemmas
 pub mod PieceLemmas
+pub mod PlaceLemmas
 pub mod QueryCuts
+pub mod ReportLemmas
 pub mod RunLemmas
 pub mod StandingLemmas
 pub mod TextLemmas
+pub mod TransposedLemmas
+pub mod WritingLemmas

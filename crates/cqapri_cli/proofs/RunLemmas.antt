@@ -1,11 +1,22 @@
 -- How a job ends: by its words, by a file, by the output, or with all answers.
 use Rattle.std.proofs.Common.{◌≡◌, ◌<◌, inl, inr, ℕ, List, length, Option, Some, None, IfSome, Result, Ok, Err, IfErr, false, refl, sym, ap, ◌∙◌, subst, arith}
+use Rattle.std.specs.List.{AllZip}
+use Rattle.std.specs.Result.{IsErrAnd}
 use Rattle.cq_terms.specs.Knowledge.{Knowledge}
 use Rattle.cq_terms.specs.declared.names.Vocab.{Vocab}
 use Rattle.cq_io.specs.Faults.{Rose, TellsFault}
 use Rattle.cqapri_cli.specs.Inputs.{Held, FileNames, AreWords, IsAccepted, IsOutOfForm, HasForm, limit_of, AreAccepted, FilesSay, StopsFiles, IsOfFiles, name_of, is_read_fault}
-use Rattle.cqapri_cli.specs.Refusals.{status_of}
-use Rattle.cqapri_cli.specs.Run.{EndsBy, Explains, Leaves, IsComplete, is_write_fault}
+use Rattle.cq_meaning.specs.Candidates.{concept_query}
+use Rattle.report_text.specs.Reports.{has_failed}
+use Rattle.report_text.specs.declared.line.Line.{Line}
+use Rattle.report_text.specs.declared.report.LineFault.{LineFault}
+use Rattle.report_text.specs.declared.report.LineFault.TheVariants as line_fault
+use Rattle.cqapri_cli.specs.declared.verdicts.Answer.{Answer}
+use Rattle.cqapri_cli.specs.Answers.{AreAnswers, HasConflicts}
+use Rattle.cqapri_cli.specs.LineWriting.{StopsBy}
+use Rattle.cqapri_cli.specs.Refusals.{status_of, refusal_of_lines}
+use Rattle.cqapri_cli.specs.ReportLines.{report_lines}
+use Rattle.cqapri_cli.specs.Run.{EndsBy, Explains, Leaves, IsComplete, Reports, is_write_fault}
 use Rattle.cqapri_cli.specs.declared.refusal.File.{File}
 use Rattle.cqapri_cli.specs.declared.refusal.File.TheVariants as file
 use Rattle.cqapri_cli.specs.declared.refusal.Refusal.{Refusal}
@@ -46,10 +57,52 @@ explains_files holds words names w (refusal.ReadFault f) k s = (names, w, s)
 pub leaves_files : (holds : Option Held) (words : List (List ℕ)) (old new : Option (List ℕ)) (r : Refusal) → IsOfFiles r → new ≡ old → Leaves holds words old new r
 leaves_files holds words old new refusal.Words k e = absurd k
 leaves_files holds words old new refusal.WriteFault k e = absurd k
-leaves_files holds words old new refusal.NoMemory k e = e
+leaves_files holds words old new refusal.NoMemory k e = inl e
 leaves_files holds words old new (refusal.NotThere f) k e = e
 leaves_files holds words old new refusal.NotBuilt k e = e
 leaves_files holds words old new (refusal.ReadFault f) k e = e
+
+-- a report that was not written whole explains the end
+pub explains_lines : (holds : Option Held) (words : List (List ℕ)) (names : FileNames) → AreWords words names → IfSome holds (λ held. AreAccepted held names) → (e : LineFault) → Explains holds words (refusal_of_lines e)
+explains_lines holds words names w all line_fault.Failed = (names, w, all)
+explains_lines holds words names w all line_fault.NoMemory = (names, w, any holds)
+  where
+    any : (o : Option Held) → IfSome o (λ held. EndsBy refusal.NoMemory held names)
+    any None = tt
+    any (Some held) = tt
+
+-- and leaves a part of it
+pub leaves_lines : (holds : Option Held) (words : List (List ℕ)) (old new : Option (List ℕ)) (lines : List Line) → Reports holds words lines → (e : LineFault) → StopsBy e old new lines → Leaves holds words old new (refusal_of_lines e)
+leaves_lines holds words old new lines reports line_fault.Failed w = (lines, reports, w)
+leaves_lines holds words old new lines reports line_fault.NoMemory w = inr (lines, reports, w)
+
+-- its fault is one of the output alone
+pub lines_write_fault : {T : Type 0} (r : Result T Refusal) (e : LineFault) (before now : ℕ) → IsErrAnd r (λ x. x ≡ refusal_of_lines e) → TellsFault before now (has_failed {T = Unit {0}} (Err e)) → TellsFault before now (is_write_fault r)
+lines_write_fault (Ok x) e before now h w = absurd h
+lines_write_fault (Err x) line_fault.Failed before now h w = subst (λ y. TellsFault before now (is_write_fault {T = Unit {0}} (Err y))) (sym h) w
+lines_write_fault (Err x) line_fault.NoMemory before now h w = subst (λ y. TellsFault before now (is_write_fault {T = Unit {0}} (Err y))) (sym h) w
+
+pub lines_read_fault : {T : Type 0} (r : Result T Refusal) (e : LineFault) → IsErrAnd r (λ x. x ≡ refusal_of_lines e) → is_read_fault r ≡ false
+lines_read_fault (Ok x) e h = absurd h
+lines_read_fault (Err x) line_fault.Failed h = ap (λ y. is_read_fault {T = Unit {0}} (Err y)) h
+lines_read_fault (Err x) line_fault.NoMemory h = ap (λ y. is_read_fault {T = Unit {0}} (Err y)) h
+
+-- the report of what the files say
+pub reports : (holds : Option Held) (words : List (List ℕ)) (names : FileNames) → AreWords words names → (kb : Knowledge) (concept : ℕ) (vocab : Vocab) → FilesSay holds names kb concept vocab
+    → (answers : List Answer) (conflicts : List (List ℕ)) → AreAnswers kb (concept_query concept) answers → AllZip (HasConflicts kb) answers conflicts → Reports holds words (report_lines kb vocab.inds answers conflicts)
+reports holds words names w kb concept vocab say answers conflicts right cores = record {
+  names = names;
+  are_words = w;
+  kb = kb;
+  concept = concept;
+  vocab = vocab;
+  say = say;
+  answers = answers;
+  conflicts = conflicts;
+  right = right;
+  cores = cores;
+  are_lines = refl;
+}
 
 -- it is no fault of the output
 pub no_write_fault : {T : Type 0} (r : Result T Refusal) → IfErr r IsOfFiles → is_write_fault r ≡ false

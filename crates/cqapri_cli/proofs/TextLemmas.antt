@@ -1,5 +1,5 @@
--- The answers are of individuals that have texts.
-use Rattle.std.proofs.Common.{ℕ, ◌<◌, List, [], ◌∷◌, map, All}
+-- The answers are of individuals that have texts, and their witnesses of satisfiable names.
+use Rattle.std.proofs.Common.{ℕ, ◌<◌, ◌≤◌, List, [], ◌∷◌, map, All, Option, Some, None, IfSome}
 use Rattle.std.specs.List.{AllByRecursion}
 use Rattle.std.proofs.lemmas.List.Elements.{All-weaker, All-contains, All-from_recursion, recursion_from_All}
 use Rattle.cq_terms.specs.declared.axioms.Axiom.{Axiom}
@@ -8,12 +8,13 @@ use Rattle.cq_terms.specs.declared.axioms.Basic.TheVariants.{Concept, Has}
 use Rattle.cq_terms.specs.declared.facts.Fact.{Fact}
 use Rattle.cq_terms.specs.declared.facts.Fact.TheVariants as fact
 use Rattle.cq_terms.specs.Knowledge.{Knowledge}
-use Rattle.cq_meaning.specs.Candidates.{Every, concept_query}
+use Rattle.cq_meaning.specs.Candidates.{Every, concept_query, IsWitness}
 use Rattle.cq_meaning.specs.ConceptNames.{IsOfNames, IsOfName, PutsInto}
 use Rattle.cq_meaning.specs.Conflicts.{FactsEntail}
 use Rattle.cq_meaning.specs.Laws.{ConceptNameVerdicts}
-use Rattle.cqapri_cli.specs.Answers.{AreAnswers}
+use Rattle.cqapri_cli.specs.Answers.{AreAnswers, IsRightAnswer}
 use Rattle.cqapri_cli.specs.Hierarchies.{IsOfNamesBelow}
+use Rattle.cqapri_cli.specs.Rivals.{IsSafe, HasSafeWitness}
 use Rattle.cqapri_cli.specs.Standings.{IsOfNameBelow}
 use Rattle.cqapri_cli.specs.declared.verdicts.Answer.{Answer}
 use Rattle.cqapri_cli.proofs.ListLemmas.{Contains-slice_get}
@@ -50,3 +51,16 @@ module _ (law : ConceptNameVerdicts) (kb : Knowledge) (n m : ℕ) (axioms : All 
       each : (xs : List Answer) → AllByRecursion (FactsEntail kb Every (concept_query concept)) (map (λ a. a.individual ∷ []) xs) → AllByRecursion (λ answer. answer.individual < m) xs
       each [] h = tt
       each (x ∷ xs) h = (candidate_below x.individual h.0, each xs h.1)
+
+  -- and each witness is of a satisfiable name
+  pub safe_witnesses : (answers : List Answer) → AreAnswers kb (concept_query concept) answers → All (HasSafeWitness kb) answers
+  safe_witnesses answers right = All-weaker (IsRightAnswer kb (concept_query concept)) (HasSafeWitness kb) each answers right.right
+    where
+      safe : (t : ℕ) (o : Option ℕ) → IfSome o (λ i. IsWitness kb (concept_query concept) (t ∷ []) i × ((j : ℕ) → IsWitness kb (concept_query concept) (t ∷ []) j → i ≤ j)) → IfSome o (IsSafe kb t)
+      safe t None h = tt
+      safe t (Some w) h =
+          let p = ((law kb (All-weaker _ _ (of_names n) kb.axioms axioms) (All-weaker _ _ (of_name n m) kb.facts facts) concept t).witness w).0 h.0 in
+          (p.0, p.1, p.3)
+
+      each : (answer : Answer) → IsRightAnswer kb (concept_query concept) answer → HasSafeWitness kb answer
+      each answer r = safe answer.individual answer.witness r.least

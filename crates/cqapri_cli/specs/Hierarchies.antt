@@ -1,5 +1,5 @@
 -- What the axioms say of each concept name, as lists by the number of the name.
-use Rattle.std.specs.Prelude.{◌≡◌, ℕ, ◌<◌, ◌↔◌, ◌⊎◌, List, [], ◌∷◌, ◌++◌, length, slice_index_or, slice_set, Contains}
+use Rattle.std.specs.Prelude.{◌≡◌, ℕ, zero, suc, ◌<◌, ◌↔◌, ◌⊎◌, List, [], ◌∷◌, ◌++◌, length, slice_index_or, slice_set, Contains}
 use Rattle.cq_terms.specs.declared.axioms.Basic.TheVariants.{Concept}
 use Rattle.cq_terms.specs.declared.axioms.Axiom.{Axiom}
 use Rattle.cq_terms.specs.declared.axioms.Axiom.TheVariants.{Sub, Disjoint}
@@ -41,3 +41,24 @@ AddsPair make rule old new = (a b : ℕ) → Contains (names_at new a) b ↔ (Co
 -- the set and the lists share a pair: a name of the set has another name of the set in its list
 abbrev pub ShareName : List (List ℕ) → List ℕ → Type 0
 ShareName lists names = (x : ℕ) × (y : ℕ) × Contains names x × Contains (names_at lists x) y × Contains names y
+
+-- so many entries of the lists lead from the first name to the second
+abbrev pub LeadsIn : List (List ℕ) → ℕ → ℕ → ℕ → Type 0
+LeadsIn lists zero a b = a ≡ b
+LeadsIn lists (suc n) a b = (c : ℕ) × LeadsIn lists n a c × Contains (names_at lists c) b
+
+-- entries lead to the name from one of the names
+abbrev pub IsLedTo : List (List ℕ) → List ℕ → ℕ → Type 0
+IsLedTo lists starts b = (a : ℕ) × Contains starts a × (n : ℕ) × LeadsIn lists n a b
+
+-- the new lists have the pairs of the old ones, the other way round
+abbrev pub AreTransposed : List (List ℕ) → List (List ℕ) → Type 0
+AreTransposed old new = (a b : ℕ) → Contains (names_at new b) a ↔ Contains (names_at old a) b
+
+-- the name is in the list of one of the names
+abbrev pub IsListed : List (List ℕ) → List ℕ → ℕ → Type 0
+IsListed lists names b = (x : ℕ) × Contains names x × Contains (names_at lists x) b
+
+-- the new lists have one pair more for each of the others: it, and the name
+abbrev pub AddsPairsTo : List ℕ → ℕ → List (List ℕ) → List (List ℕ) → Type 0
+AddsPairsTo others name old new = (a b : ℕ) → Contains (names_at new a) b ↔ (Contains (names_at old a) b ⊎ (Contains others a × (b ≡ name)))

@@ -11,3 +11,4 @@ pub record AreNumbered (kb : Knowledge) (concept : ℕ) (vocab : Vocab) : Type 0
   pub facts : All (IsOfNameBelow (length vocab.concepts) (length vocab.inds)) kb.facts
   pub asked : concept < length vocab.concepts
   pub few_facts : length kb.facts < 2 ^ 31
+  pub few_axioms : length kb.axioms < 2 ^ 32

@@ -4,6 +4,8 @@ use Rattle.cq_io.specs.Faults.{CountsFault}
 use Rattle.cq_io.specs.Writing.{appended}
 use Rattle.axiom_reader.specs.declared.read.AxiomRefusal.{AxiomRefusal}
 use Rattle.axiom_reader.specs.declared.read.AxiomRefusal.TheVariants as axiom_refusal
+use Rattle.report_text.specs.declared.report.LineFault.{LineFault}
+use Rattle.report_text.specs.declared.report.LineFault.TheVariants as line_fault
 use Rattle.cqapri_cli.specs.declared.form_refusal.FormRefusal.{FormRefusal}
 use Rattle.cqapri_cli.specs.declared.form_refusal.FormRefusal.TheVariants as form_refusal
 use Rattle.cqapri_cli.specs.declared.status.Status.{Status}
@@ -60,3 +62,8 @@ refusal_of_axioms axiom_refusal.NoMemory = refusal.NoMemory
 abbrev pub refusal_of_form : FormRefusal → Refusal
 refusal_of_form form_refusal.NotBuilt = refusal.NotBuilt
 refusal_of_form form_refusal.NoMemory = refusal.NoMemory
+
+-- the refusal of a report that was not written whole
+abbrev pub refusal_of_lines : LineFault → Refusal
+refusal_of_lines line_fault.Failed = refusal.WriteFault
+refusal_of_lines line_fault.NoMemory = refusal.NoMemory

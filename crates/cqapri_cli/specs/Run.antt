@@ -1,13 +1,17 @@
 -- How `run` ends, and what it has written then.
-use Rattle.std.specs.Prelude.{◌≡◌, ℕ, ◌⊎◌, List, Option, None, IfSome, Result, Err, Bool, true, false}
+use Rattle.std.specs.Prelude.{◌≡◌, ◌≢◌, ℕ, ◌⊎◌, List, Option, None, IfSome, Result, Err, Bool, true, false}
+use Rattle.std.specs.List.{AllZip}
 use Rattle.cq_io.specs.Writing.{appended}
 use Rattle.cq_terms.specs.Knowledge.{Knowledge}
 use Rattle.cq_terms.specs.declared.names.Vocab.{Vocab}
 use Rattle.cq_meaning.specs.Candidates.{concept_query}
-use Rattle.cqapri_cli.specs.Answers.{AreAnswers}
+use Rattle.report_text.specs.LineBytes.{bytes_of}
+use Rattle.report_text.specs.declared.line.Line.{Line}
+use Rattle.cqapri_cli.specs.Answers.{AreAnswers, HasConflicts}
 use Rattle.cqapri_cli.specs.Inputs.{Held, FileNames, AreWords, name_of, IsReached, IsOutOfForm, AreAccepted, StopsFiles, FilesSay}
-use Rattle.cqapri_cli.specs.Lines.{answer_lines}
+use Rattle.cqapri_cli.specs.LineWriting.{AppendsFirstLines}
 use Rattle.cqapri_cli.specs.Pieces.{AppendsFirst}
+use Rattle.cqapri_cli.specs.ReportLines.{report_lines}
 use Rattle.cqapri_cli.specs.declared.refusal.File.{File}
 use Rattle.cqapri_cli.specs.declared.refusal.Refusal.{Refusal}
 use Rattle.cqapri_cli.specs.declared.refusal.Refusal.TheVariants as refusal
@@ -44,8 +48,9 @@ abbrev pub IsComplete : Option Held → List (List ℕ) → Type 0 → Type 0 �
 IsComplete holds words read_fault write_fault result = IfSome holds (λ held. (names : FileNames) → AreWords words names → AreAccepted held names
     → ¬ read_fault → ¬ write_fault → (result ≡ status.Done) ⊎ (result ≡ status.NoMemory))
 
--- the answers are those of what the named files say, and these lines are theirs
-pub record Answers (holds : Option Held) (words : List (List ℕ)) (lines : List ℕ) : Type 0 where
+-- the answers are those of what the named files say, each has the facts that conflict with its witness, and these lines
+-- are their report
+pub record Reports (holds : Option Held) (words : List (List ℕ)) (lines : List Line) : Type 0 where
   pub names : FileNames
   pub are_words : AreWords words names
   pub kb : Knowledge
@@ -53,25 +58,32 @@ pub record Answers (holds : Option Held) (words : List (List ℕ)) (lines : List
   pub vocab : Vocab
   pub say : FilesSay holds names kb concept vocab
   pub answers : List Answer
+  pub conflicts : List (List ℕ)
   pub right : AreAnswers kb (concept_query concept) answers
-  pub text : lines ≡ answer_lines vocab.inds answers
+  pub cores : AllZip (HasConflicts kb) answers conflicts
+  pub are_lines : lines ≡ report_lines kb vocab.inds answers conflicts
 
--- the lines of the answers were written, all of them
-abbrev pub WritesAnswers : Option Held → List (List ℕ) → Option (List ℕ) → Option (List ℕ) → Type 0
-WritesAnswers holds words old new = (lines : List ℕ) × Answers holds words lines × (new ≡ appended old lines)
+-- the lines of the report were written, all of them
+abbrev pub WritesReport : Option Held → List (List ℕ) → Option (List ℕ) → Option (List ℕ) → Type 0
+WritesReport holds words old new = (lines : List Line) × Reports holds words lines × (new ≡ appended old (bytes_of lines))
 
--- the first bytes of the lines of the answers were written
+-- the first bytes of the report were written
 abbrev pub WritesFirst : Option Held → List (List ℕ) → Option (List ℕ) → Option (List ℕ) → Type 0
-WritesFirst holds words old new = (lines : List ℕ) × Answers holds words lines × AppendsFirst old new lines
+WritesFirst holds words old new = (lines : List Line) × Reports holds words lines × AppendsFirst old new (bytes_of lines)
+
+-- nothing was written, or the first lines of the report, each of them whole
+abbrev pub WritesFirstLines : Option Held → List (List ℕ) → Option (List ℕ) → Option (List ℕ) → Type 0
+WritesFirstLines holds words old new = (new ≡ old) ⊎ ((lines : List Line) × Reports holds words lines × AppendsFirstLines old new lines)
 
 -- the job ended with a fault of the output
 abbrev pub is_write_fault : {T : Type 0} → Result T Refusal → Bool
 is_write_fault (Err refusal.WriteFault) = true
 is_write_fault _ = false
 
--- what a refusal leaves in the output: nothing but after a write fault
+-- what a refusal leaves in the output: nothing but after a write fault, or where memory ran out
 abbrev pub Leaves : Option Held → List (List ℕ) → Option (List ℕ) → Option (List ℕ) → Refusal → Type 0
 Leaves holds words old new refusal.WriteFault = WritesFirst holds words old new
+Leaves holds words old new refusal.NoMemory = WritesFirstLines holds words old new
 Leaves holds words old new r = new ≡ old
 
 -- the status is that of a fault of the shelf, or of the output
@@ -82,3 +94,7 @@ is_read_status _ = false
 abbrev pub is_write_status : Status → Bool
 is_write_status status.WriteFault = true
 is_write_status _ = false
+
+-- the status is one with which nothing was written
+abbrev pub WritesNothing : Status → Type 0
+WritesNothing result = (result ≢ status.Done) × (result ≢ status.WriteFault) × (result ≢ status.NoMemory)

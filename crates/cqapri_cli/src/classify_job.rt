@@ -1,25 +1,28 @@
 //! The job `classify`.
 
-ghost use Rattle.std.specs.Prelude.{◌≡◌, map, string_bytes, OnOk, IfOk, IfErr, length, ◌<◌};
+ghost use Rattle.std.specs.Prelude.{◌≡◌, map, string_bytes, OnOk, IfOk, IfErr, length, ◌<◌, ◌^◌};
+ghost use Rattle.std.specs.List.{AllZip};
 ghost use Rattle.cq_io.specs.Faults.{TellsFault};
 ghost use Rattle.cq_meaning.specs.Candidates.{concept_query};
-ghost use Rattle.cqapri_cli.specs.Answers.{AreAnswers};
+ghost use Rattle.cqapri_cli.specs.Answers.{AreAnswers, HasConflicts};
 ghost use Rattle.cqapri_cli.specs.Inputs.{AreAccepted, is_read_fault};
-ghost use Rattle.cqapri_cli.specs.Lines.{HaveTexts};
+ghost use Rattle.cqapri_cli.specs.Texts.{HaveTexts};
 ghost use Rattle.cqapri_cli.specs.Numbered.{AreNumbered};
-ghost use Rattle.cqapri_cli.specs.Run.{NameFiles, Explains, WritesAnswers, Leaves, is_write_fault};
+ghost use Rattle.cqapri_cli.specs.Run.{NameFiles, Explains, WritesReport, Leaves, is_write_fault};
 
 use crate::Refusal;
-use crate::answer_lines::write_answers;
+use crate::conflicts::conflict_lists;
 use crate::input::{Input, read_input};
 use crate::paths::paths_of;
+use crate::report_writer::write_report;
+use crate::standings::standing_table;
 use crate::verdicts::{Answer, answers};
 use cq_io::{Shelf, Sink};
 use cq_meaning::concept_name_verdicts;
-use cq_terms::NoMemory;
+use cq_terms::{Ids, NoMemory};
 use std::alloc::Global;
 
-/// Answers the query of the files that the words name, one line for each candidate.
+/// Answers the query of the files that the words name by a report.
 pub(crate) fn classify<S: Shelf, O: Sink>(
     alloc: Global,
     words: &[String],
@@ -27,7 +30,7 @@ pub(crate) fn classify<S: Shelf, O: Sink>(
     out: &mut O,
 ) -> Result<(), Refusal>
     ensures accepted { OnOk result (NameFiles (S.holds files.old) (map string_bytes words.now) AreAccepted) }
-    ensures answers { OnOk result (WritesAnswers (S.holds files.old) (map string_bytes words.now) (O.written out.old) (O.written out.new)) }
+    ensures answers { OnOk result (WritesReport (S.holds files.old) (map string_bytes words.now) (O.written out.old) (O.written out.new)) }
     ensures explained { IfErr result (Explains (S.holds files.old) (map string_bytes words.now)) }
     ensures left { IfErr result (Leaves (S.holds files.old) (map string_bytes words.now) (O.written out.old) (O.written out.new)) }
 
@@ -39,27 +42,42 @@ pub(crate) fn classify<S: Shelf, O: Sink>(
         return Err(Refusal::Words);
     };
     let input = read_input(alloc, files, paths)?;
-    let answers = answers_of(alloc, &input)?;
-    match write_answers(out, &input.vocab.inds, &answers) {
-        Ok(()) => Ok(()),
-        Err(_) => Err(Refusal::WriteFault),
-    }
+    let decided = decide(alloc, &input)?;
+    let individuals = &input.vocab.inds;
+    write_report(
+        alloc,
+        out,
+        &input.kb,
+        individuals,
+        &decided.answers,
+        &decided.conflicts,
+    )?;
+    Ok(())
 }
 
-/// The answers of what the files say.
-fn answers_of(alloc: Global, input: &Input) -> Result<Vec<Answer>, NoMemory>
+/// The answers of what the files say, and for each the facts that conflict with its witness.
+#[derive(Debug, Drop)]
+pub(crate) struct Decided {
+    /// The answers, in order.
+    pub(crate) answers: Vec<Answer>,
+    /// For each answer the numbers of the facts that conflict with its witness, where it has one.
+    pub(crate) conflicts: Vec<Ids>,
+}
+
+/// Decides the query of what the files say.
+fn decide(alloc: Global, input: &Input) -> Result<Decided, NoMemory>
     requires numbered { AreNumbered input.now.kb input.now.concept input.now.vocab }
 
-    ensures exact { IfOk result (λ answers. AreAnswers input.now.kb (concept_query input.now.concept) answers.items) }
-    ensures texts { IfOk result (λ answers. HaveTexts input.now.vocab.inds answers.items) }
+    ensures exact { IfOk result (λ decided. AreAnswers input.now.kb (concept_query input.now.concept) decided.answers.items) }
+    ensures conflicts { IfOk result (λ decided. AllZip (HasConflicts input.now.kb) decided.answers.items decided.conflicts.items) }
+    ensures texts { IfOk result (λ decided. HaveTexts input.now.vocab.inds decided.answers.items) }
+    ensures few { IfOk result (λ decided. length decided.answers.items < 2 ^ 32) }
 {
     concept_name_verdicts();
-    let answers = answers(
-        alloc,
-        &input.kb,
-        input.concept,
-        input.vocab.concepts.len(),
-        input.vocab.inds.len(),
-    )?;
-    Ok(answers)
+    let (kb, vocab) = (&input.kb, &input.vocab);
+    let individuals = vocab.inds.len();
+    let standings = standing_table(alloc, kb, input.concept, vocab.concepts.len())?;
+    let answers = answers(alloc, kb, &standings, individuals)?;
+    let conflicts = conflict_lists(alloc, kb, &standings, &answers, individuals)?;
+    Ok(Decided { answers, conflicts })
 }

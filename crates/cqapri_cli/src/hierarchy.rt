@@ -3,7 +3,7 @@
 ghost use Rattle.std.specs.Prelude.{◌≡◌, ℕ, ◌<◌, ◌≤◌, ◌↔◌, List, [], length, All, Contains, IfOk, OnOk, IsTrue, replicate};
 ghost use Rattle.cq_terms.specs.declared.axioms.Axiom.{Axiom};
 ghost use Rattle.cq_meaning.specs.ConceptNames.{IsSubsumed};
-ghost use Rattle.cqapri_cli.specs.Hierarchies.{IsOfNamesBelow, AreWithin, AreLists, AddsPair, ShareName, with_entry, inclusion, disjointness, names_at};
+ghost use Rattle.cqapri_cli.specs.Hierarchies.{IsOfNamesBelow, AreWithin, AreLists, AddsPair, ShareName, IsLedTo, with_entry, inclusion, disjointness, names_at};
 
 use crate::name_set::NameSet;
 use cq_terms::{Axiom, Basic, Ids, NoMemory};
@@ -42,7 +42,7 @@ impl Hierarchy {
 }
 
 /// Empty lists, so many.
-fn empty_lists(alloc: Global, count: usize) -> Result<Vec<Ids>, NoMemory>
+pub(crate) fn empty_lists(alloc: Global, count: usize) -> Result<Vec<Ids>, NoMemory>
     ensures exact { IfOk result (λ v. v.items ≡ replicate count []) }
 {
     let mut lists = Vec::new(alloc);
@@ -74,7 +74,7 @@ fn add_axiom(above: &mut [Ids], apart: &mut [Ids], rule: Axiom) -> Result<(), No
 }
 
 /// Adds a name to the list of another.
-fn add_entry(lists: &mut [Ids], at: u32, name: u32) -> Result<(), NoMemory>
+pub(crate) fn add_entry(lists: &mut [Ids], at: u32, name: u32) -> Result<(), NoMemory>
     requires within { at < length lists.old }
 
     ensures exact { OnOk result (lists.new ≡ with_entry lists.old at name) }
@@ -93,10 +93,20 @@ pub fn close(above: &[Ids], reached: &mut NameSet, name: u32) -> Result<(), NoMe
         → (b : ℕ) → Contains reached.new.names b ↔ IsSubsumed axioms name b) }
 {
     reached.insert(name)?;
+    close_set(above, reached)
+}
+
+/// Puts all names into the set that entries of the lists lead to from its names.
+pub fn close_set(lists: &[Ids], reached: &mut NameSet) -> Result<(), NoMemory>
+    requires within { AreWithin reached.old.bound lists.now }
+
+    ensures bound { OnOk result (reached.new.bound ≡ reached.old.bound) }
+    ensures exact { OnOk result ((b : ℕ) → Contains reached.new.names b ↔ IsLedTo lists.now reached.old.names b) }
+{
     let mut next = 0;
     while next < reached.names().len() {
         let from = reached.names()[next];
-        reached.insert_all(above[from as usize].as_slice())?;
+        reached.insert_all(lists[from as usize].as_slice())?;
         next += 1;
     }
     Ok(())

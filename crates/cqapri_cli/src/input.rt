@@ -69,6 +69,7 @@ fn read_ontology<S: Shelf>(
     ensures exact { IfOk result (λ axioms. (bytes : List ℕ) × IsFetched (S.holds files.old) name.now file.Ontology bytes
         × Reads bytes vocab.old.concepts vocab.new.concepts axioms.items) }
     ensures names { IfOk result (λ axioms. All (IsOfNamesBelow (length vocab.new.concepts)) axioms.items) }
+    ensures few { IfOk result (λ axioms. length axioms.items ≤ limit_of file.Ontology) }
     ensures refused { IfErr result (λ r. IfSome (S.holds files.old) (λ held. StopsAt held name.now file.Ontology r)) }
     ensures of_files { IfErr result IsOfFiles }
 

@@ -10,6 +10,7 @@ use crate::pieces::write_pieces;
 use axiom_reader::AxiomRefusal;
 use cq_io::Sink;
 use cq_terms::NoMemory;
+use report_text::LineFault;
 
 /// A file that the words name.
 #[derive(Clone, Copy, Debug, PartialEq, Eq)]
@@ -99,6 +100,20 @@ impl From<FormRefusal> for Refusal {
         match refused {
             FormRefusal::NotBuilt => Refusal::NotBuilt,
             FormRefusal::NoMemory => Refusal::NoMemory,
+        }
+    }
+}
+
+impl From<LineFault> for Refusal {
+    ghost use Rattle.std.specs.Prelude.{◌≡◌};
+    ghost use Rattle.cqapri_cli.specs.Refusals.{refusal_of_lines};
+
+    ghost from_gives = { λ fault refusal. refusal ≡ refusal_of_lines fault };
+
+    fn from(fault: LineFault) -> Refusal {
+        match fault {
+            LineFault::Failed => Refusal::WriteFault,
+            LineFault::NoMemory => Refusal::NoMemory,
         }
     }
 }

@@ -4,7 +4,7 @@ ghost use Rattle.std.specs.Prelude.{◌≡◌, ◌≢◌, ◌↔◌, ◌⊎◌, 
 ghost use Rattle.cq_io.specs.Faults.{Rose, TellsFault};
 ghost use Rattle.cqapri_cli.specs.Inputs.{AreAccepted};
 ghost use Rattle.cqapri_cli.specs.Refusals.{Tells, status_of};
-ghost use Rattle.cqapri_cli.specs.Run.{NameNothing, NameFiles, AreRefused, Explains, IsComplete, WritesAnswers, WritesFirst, is_read_status, is_write_status};
+ghost use Rattle.cqapri_cli.specs.Run.{NameNothing, NameFiles, AreRefused, Explains, IsComplete, WritesReport, WritesFirst, WritesFirstLines, WritesNothing, is_read_status, is_write_status};
 ghost use Rattle.cqapri_cli.specs.declared.refusal.Refusal.{Refusal};
 
 use crate::Status;
@@ -14,10 +14,11 @@ use std::alloc::Global;
 
 /// Runs the job that the words after the program's name ask for: `classify --ontology F --facts F --query F`.
 ///
-/// The files are fetched from `files` and tested in this order: the axioms, the facts, the query. `out` gets one line for
-/// each candidate in the order of the individuals' first appearance: the individual, a comma, `yes` where some repair
-/// entails that it is in the concept and else `no`. `err` gets one line where the status isn't `Done`. Repairs are the
-/// maximal consistent parts of the facts (Bienvenu and Bourgaux 2022).
+/// The files are fetched from `files` and tested in this order: the axioms, the facts, the query. `out` gets a report, line
+/// by line: a head of version 0; for each candidate, in the order of the individuals' first appearance, its core where some
+/// repair entails that it is in the concept, and its answer; and an end. The core keeps the least fact that by itself is
+/// consistent and entails it, and drops the facts that conflict with that one. `err` gets one line where the status isn't
+/// `Done`. Repairs are the maximal consistent parts of the facts (Bienvenu and Bourgaux 2022).
 pub fn run<S: Shelf, O: Sink, E: Sink>(
     alloc: Global,
     words: &[String],
@@ -36,9 +37,10 @@ pub fn run<S: Shelf, O: Sink, E: Sink>(
     ensures unlimited { result ≢ Status.Limit }
 
     // What `out` and `err` have got.
-    ensures answers { result ≡ Status.Done → WritesAnswers (S.holds files.old) (map string_bytes words.now) (O.written out.old) (O.written out.new) }
+    ensures answers { result ≡ Status.Done → WritesReport (S.holds files.old) (map string_bytes words.now) (O.written out.old) (O.written out.new) }
     ensures part { result ≡ Status.WriteFault → WritesFirst (S.holds files.old) (map string_bytes words.now) (O.written out.old) (O.written out.new) }
-    ensures nothing_written { result ≢ Status.Done → result ≢ Status.WriteFault → O.written out.new ≡ O.written out.old }
+    ensures whole_lines { result ≡ Status.NoMemory → WritesFirstLines (S.holds files.old) (map string_bytes words.now) (O.written out.old) (O.written out.new) }
+    ensures nothing_written { WritesNothing result → O.written out.new ≡ O.written out.old }
     ensures silent { result ≡ Status.Done → (E.written err.new ≡ E.written err.old) × (E.faults err.new ≡ E.faults err.old) }
     ensures told { result ≢ Status.Done → (r : Refusal) × (status_of r ≡ result) × Explains (S.holds files.old) (map string_bytes words.now) r
         × Tells r (E.written err.old) (E.written err.new) (E.faults err.old) (E.faults err.new) }

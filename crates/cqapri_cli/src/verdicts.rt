@@ -1,6 +1,6 @@
 //! The candidates of a concept and their verdicts, under axioms and facts of concept names alone.
 
-ghost use Rattle.std.specs.Prelude.{◌≡◌, ℕ, suc, ◌<◌, ◌^◌, length, slice_get, Some, All, IfOk};
+ghost use Rattle.std.specs.Prelude.{◌≡◌, ℕ, suc, ◌<◌, ◌≤◌, ◌^◌, length, slice_get, Some, All, IfOk};
 ghost use Rattle.std.specs.List.{filter_map};
 ghost use Rattle.cq_terms.specs.Knowledge.{Knowledge};
 ghost use Rattle.cq_meaning.specs.Candidates.{concept_query};
@@ -9,7 +9,7 @@ ghost use Rattle.cqapri_cli.specs.Findings.{IsToldBy, AreFindings, witness_of};
 ghost use Rattle.cqapri_cli.specs.Hierarchies.{IsOfNamesBelow};
 ghost use Rattle.cqapri_cli.specs.Standings.{IsOfNameBelow, AreStandings};
 
-use crate::standings::{Standing, standing_table};
+use crate::standings::Standing;
 use cq_terms::{Fact, Kb, NoMemory};
 use std::alloc::Global;
 
@@ -23,23 +23,23 @@ pub struct Answer {
 }
 
 /// Answers who is in the concept, in the order of the individuals' numbers, each with its verdict under all repairs: brave
-/// where there is a witness. Concept names are numbered below `concepts`, individuals below `individuals`.
+/// where there is a witness. The table has the standings of the concept names towards the concept. Individuals are numbered
+/// below `individuals`.
 pub fn answers(
     alloc: Global,
     kb: &Kb,
-    concept: u32,
-    concepts: usize,
+    table: &[Option<Standing>],
     individuals: usize,
 ) -> Result<Vec<Answer>, NoMemory>
-    requires names { All (IsOfNamesBelow concepts) kb.now.axioms }
-    requires facts { All (IsOfNameBelow concepts individuals) kb.now.facts }
-    requires asked { concept < concepts }
-    requires few_concepts { concepts < 2 ^ 32 }
+    requires names { All (IsOfNamesBelow (length table.now)) kb.now.axioms }
+    requires facts { All (IsOfNameBelow (length table.now) individuals) kb.now.facts }
     requires few_facts { length kb.now.facts < 2 ^ 31 }
 
-    ensures exact { IfOk result (λ v. AreAnswers kb.now (concept_query concept) v.items) }
+    ensures exact { (concept : ℕ) → AreStandings kb.now concept table.now
+        → IfOk result (λ v. AreAnswers kb.now (concept_query concept) v.items) }
+    ensures few { IfOk result (λ v. length v.items ≤ individuals) }
 {
-    let findings = findings(alloc, kb, concept, concepts, individuals)?;
+    let findings = findings(alloc, kb, table, individuals)?;
     collected(alloc, &findings)
 }
 
@@ -47,23 +47,20 @@ pub fn answers(
 fn findings(
     alloc: Global,
     kb: &Kb,
-    concept: u32,
-    concepts: usize,
+    table: &[Option<Standing>],
     individuals: usize,
 ) -> Result<Vec<Option<Answer>>, NoMemory>
-    requires names { All (IsOfNamesBelow concepts) kb.now.axioms }
-    requires facts { All (IsOfNameBelow concepts individuals) kb.now.facts }
-    requires asked { concept < concepts }
-    requires few_concepts { concepts < 2 ^ 32 }
+    requires names { All (IsOfNamesBelow (length table.now)) kb.now.axioms }
+    requires facts { All (IsOfNameBelow (length table.now) individuals) kb.now.facts }
     requires few_facts { length kb.now.facts < 2 ^ 31 }
 
-    ensures exact { IfOk result
-        (λ v. AreFindings kb.now concept individuals (length kb.now.facts) v.items) }
+    ensures exact { IfOk result (λ v. (concept : ℕ) → AreStandings kb.now concept table.now
+        → AreFindings kb.now concept individuals (length kb.now.facts) v.items) }
+    ensures size { IfOk result (λ v. length v.items ≡ individuals) }
 {
-    let table = standing_table(alloc, kb, concept, concepts)?;
     let mut findings = vec![in alloc; None; individuals]?;
     for (number, fact) in kb.facts().iter().enumerate() {
-        note_fact(&mut findings, &table, *fact, number as u32);
+        note_fact(&mut findings, table, *fact, number as u32);
     }
     Ok(findings)
 }

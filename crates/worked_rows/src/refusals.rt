@@ -113,12 +113,14 @@ fn missing_files_and_faults_have_their_texts(rt: HostRuntime) -> Result<(), Fail
 fn a_write_that_fails_leaves_a_prefix(rt: HostRuntime) -> Result<(), Fail> {
     let alloc = rt.alloc();
     let mut files = shelf(alloc, ONTOLOGY, FACTS, QUERY)?;
-    let mut out = sink(alloc, Some(9))?;
+    let mut out = sink(alloc, Some(100))?;
     let mut err = sink(alloc, None)?;
     let words = words(alloc, &CLASSIFY)?;
     let status = run(alloc, &words, &mut files, &mut out, &mut err);
     assert_eq!(rt; status, Status::WriteFault);
-    assert!(rt; out.written() == b"a,yes\nb,y".as_slice());
+    let head = r#"{"axioms":1,"budget":0,"facts":2,"k":"head","keep":0,"repairs":"all","version":0}
+{"dropped":[],"k":"#;
+    assert!(rt; out.written() == head.as_bytes());
     assert!(rt; err.written() == b"cqapri: write fault\n".as_slice());
     Ok(())
 }

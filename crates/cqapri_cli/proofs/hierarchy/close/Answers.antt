@@ -1,59 +1,14 @@
-use Rattle.std.proofs.Common.{◌≡◌, ◌+◌, ◌<◌, ◌≤◌, [], length, sym, subst, ap, ◌∙◌, arith, get_or}
-use Rattle.cqapri_cli.specs.Hierarchies.{names_at}
+use Rattle.std.proofs.Common.{ap, ◌∙◌}
 use Rattle.cqapri_cli.specs.NameSets.{Members, with_name}
-use Rattle.cqapri_cli.proofs.ClosureLemmas.{Closes, Closes-none, Closes-more, Closes-all, names_at_within}
-use Rattle.cqapri_cli.proofs.ListLemmas.{read_at}
+use Rattle.cqapri_cli.proofs.ClosureLemmas.{on_ok, led_from_one}
 use Rattle.cqapri_cli.proofs.hierarchy.close.Goals as goal
 
-pub loop-next-init : goal.loop-next-init
-loop-next-init c = record {
-  bound = ap (λ (v : Members). v.bound) c.in_ok-insert.ensures.exact;
-  closes = Closes-none c.args.above.now c.args.name c.insert.new.self.names (ap (λ (v : Members). v.names) c.in_ok-insert.ensures.exact ∙ ap (λ ns. with_name ns c.args.name) c.requires.empty);
-}
-
-pub bounds-above-from : goal.bounds-above-from
-bounds-above-from c =
-    let at : c.loop-next.next < length c.loop-next.reached.names = subst (λ ns. c.loop-next.next < length ns) c.names.ensures.lent c.loop-next-test.true in
-    let below = c.names-in-loop-next.ensures.within c.loop-next.next 0 at in
-    let same = ap (λ ns. get_or ns c.loop-next.next 0) c.names-in-loop-next.ensures.lent in
-    omega (arith, below, same, c.loop-next.invariant.bound, c.requires.within.size)
-
-pub insert_all-requires : goal.insert_all-requires
-insert_all-requires c =
-    let at : c.loop-next.next < length c.loop-next.reached.names = subst (λ ns. c.loop-next.next < length ns) c.names.ensures.lent c.loop-next-test.true in
-    let from = get_or c.names-in-loop-next.result.now c.loop-next.next 0 in
-    let below = c.names-in-loop-next.ensures.within c.loop-next.next 0 at in
-    let same = ap (λ ns. get_or ns c.loop-next.next 0) c.names-in-loop-next.ensures.lent in
-    let inside : from < length c.args.above.now = omega (arith, below, same, c.loop-next.invariant.bound, c.requires.within.size) in
-    let names = read_at c.args.above.now from c.index-above-from.result [] c.as_slice.result.now inside c.index-above-from.is c.as_slice.ensures.lent in
-    record { within = names_at_within c.loop-next.reached.bound c.args.above.now from c.as_slice.result.now (rw c.loop-next.invariant.bound c.requires.within) names }
-
-pub loop-next-smaller : goal.loop-next-smaller
-loop-next-smaller c =
-    let at : c.loop-next.next < length c.loop-next.reached.names = subst (λ ns. c.loop-next.next < length ns) c.names.ensures.lent c.loop-next-test.true in
-    let kept = ap (λ (v : Members). v.bound) c.in_ok-insert_all.ensures.exact in
-    omega (arith, at, kept, c.names.ensures.few)
-
-pub loop-next-preserved : goal.loop-next-preserved
-loop-next-preserved c =
-    let reached = c.loop-next.reached in
-    let next = c.loop-next.next in
-    let at : next < length reached.names = subst (λ ns. next < length ns) c.names.ensures.lent c.loop-next-test.true in
-    let from = get_or c.names-in-loop-next.result.now next 0 in
-    let below = c.names-in-loop-next.ensures.within next 0 at in
-    let same : from ≡ get_or reached.names next 0 = ap (λ ns. get_or ns next 0) c.names-in-loop-next.ensures.lent in
-    let inside : from < length c.args.above.now = omega (arith, below, same, c.loop-next.invariant.bound, c.requires.within.size) in
-    let names = read_at c.args.above.now from c.index-above-from.result [] c.as_slice.result.now inside c.index-above-from.is c.as_slice.ensures.lent in
-    let closes = Closes-more c.args.above.now c.args.name reached.names next c.as_slice.result.now at (names ∙ ap (names_at c.args.above.now) same) c.loop-next.invariant.closes in
-    record {
-      bound = ap (λ (v : Members). v.bound) c.in_ok-insert_all.ensures.exact ∙ c.loop-next.invariant.bound;
-      closes = subst (λ ns. Closes c.args.above.now c.args.name ns (next + 1)) (sym (ap (λ (v : Members). v.names) c.in_ok-insert_all.ensures.exact)) closes;
-    }
-
-pub returns-clause-bound : goal.returns-clause-bound
-returns-clause-bound c = c.loop-next.invariant.bound
+pub close_set-requires : goal.close_set-requires
+close_set-requires c = record { within = rw (ap (λ (v : Members). v.bound) c.in_ok-insert.ensures.exact) c.requires.within }
 
 pub returns-clause-exact : goal.returns-clause-exact
 returns-clause-exact c =
-    let at : length c.loop-next.reached.names ≤ c.loop-next.next = subst (λ ns. length ns ≤ c.loop-next.next) c.names.ensures.lent c.loop-next-test.false in
-    Closes-all c.args.above.now c.args.name c.loop-next.reached.names c.loop-next.next at c.loop-next.invariant.closes
+    let starts = ap (λ (v : Members). v.names) c.in_ok-insert.ensures.exact ∙ ap (λ ns. with_name ns c.args.name) c.requires.empty in
+    on_ok c.close_set.result c.close_set.ensures.exact (λ exact axioms lists b.
+    let led = led_from_one axioms c.args.above.now lists c.insert.new.self.names c.args.name b starts in
+    ((λ h. led.0 ((exact b).0 h)), (λ s. (exact b).1 (led.1 s))))
