@@ -1,0 +1,14 @@
+pub mod DistinctFacts
+pub mod FactFaults
+pub mod FactProgress
+pub mod FieldLemmas
+pub mod FirstFaults
+pub mod NamingLemmas
+pub mod NumberLemmas
+pub mod PairFaults
+pub mod PairLemmas
+pub mod PairProgress
+pub mod ReaderLemmas
+pub mod RecordLemmas
+pub mod SizeLemmas
+pub mod TableLemmas

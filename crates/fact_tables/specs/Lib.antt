@@ -1,0 +1,10 @@
+pub mod FactRecords
+pub mod FactSteps
+pub mod FactTable
+pub mod Facts
+pub mod Numbering
+pub mod Numbers
+pub mod PairRecords
+pub mod Pairs
+pub mod Rows
+pub mod Tables

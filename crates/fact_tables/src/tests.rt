@@ -1,0 +1,52 @@
+//! What no clause says: that memory is enough for small tables, and a few of them with what they give.
+
+ghost use Rattle.std.specs.Prelude.{◌<◌, ◌^◌, length};
+
+use crate::{FactRefusal, FactTable, PairRefusal, one_reading, read_facts, read_pairs};
+use cq_terms::{Fact, Pair, Vocab};
+use std::alloc::Global;
+use std::test::Fail;
+
+fn table_of(alloc: Global, bytes: &[u8]) -> Result<FactTable, FactRefusal>
+    requires { length bytes.now < 2 ^ 31 }
+{
+    read_facts(alloc, bytes, &mut Vocab::new(alloc))
+}
+
+#[test]
+fn equal_records_are_one_fact(rt: HostRuntime) -> Result<(), Fail> {
+    let text = b"A,\"Lee, Ann\"\r\nB,bob\r\nA,\"Lee, Ann\"\r\n";
+    let table = table_of(rt.alloc(), text)?;
+    let facts = [
+        Fact::Concept { pred: 0, ind: 0 },
+        Fact::Concept { pred: 1, ind: 1 },
+    ];
+    assert_eq!(rt; table.facts(), facts.as_slice());
+    assert_eq!(rt; table.records(), [0u32, 1, 0].as_slice());
+    let pairs = read_pairs(rt.alloc(), b"3, 02\n", &table)?;
+    assert_eq!(rt; pairs.as_slice(), [Pair { upper: 0, lower: 1 }].as_slice());
+    one_reading();
+    Ok(())
+}
+
+#[test]
+fn faulty_records_are_refused(rt: HostRuntime) -> Result<(), Fail> {
+    let narrow = table_of(rt.alloc(), b"A,a\nA\nA,\n");
+    assert_eq!(rt; narrow.err(), Some(FactRefusal::BadWidth { number: 2 }));
+    let empty = table_of(rt.alloc(), b"A,a\nA,\n");
+    assert_eq!(rt; empty.err(), Some(FactRefusal::EmptyField { number: 2 }));
+    let table = table_of(rt.alloc(), b"A,a\nB,a\n")?;
+    let rows: [(&[u8], PairRefusal); 3] = [
+        (b"1,x\n", PairRefusal::BadNumber { number: 1 }),
+        (b"1,3\n", PairRefusal::NoSuchRecord { number: 1 }),
+        (
+            b"0,99999999999999999999\n",
+            PairRefusal::NoSuchRecord { number: 1 },
+        ),
+    ];
+    for (text, refusal) in rows {
+        let read = read_pairs(rt.alloc(), text, &table);
+        assert_eq!(rt; read.err(), Some(refusal), "of {text:?}");
+    }
+    Ok(())
+}
