@@ -1,0 +1,14 @@
+pub mod BodyLemmas
+pub mod DistinctLemmas
+pub mod DraftLemmas
+pub mod FaultLemmas
+pub mod HeadLemmas
+pub mod InsideLemmas
+pub mod LawLemmas
+pub mod MarkLemmas
+pub mod NumberLemmas
+pub mod OnceLemmas
+pub mod QueryLemmas
+pub mod RunLemmas
+pub mod TextLemmas
+pub mod Utf8Lemmas
