@@ -2,7 +2,9 @@
 #![tactic(auto)]
 
 mod axioms;
+mod conflicts;
 mod facts;
+mod flat_lists;
 mod hits;
 mod kb;
 mod lists;
@@ -11,10 +13,15 @@ mod names;
 mod query;
 
 pub use axioms::{Axiom, Basic, Role};
+pub use conflicts::Conflicts;
 pub use facts::{Fact, Kind, Pair, Repairs};
+pub use flat_lists::{Entry, FlatLists};
 pub use hits::{Clash, Hit};
 pub use kb::Kb;
 pub use lists::{IdLists, Ids, Longs, Texts};
 pub use memory::NoMemory;
 pub use names::{Names, Vocab};
 pub use query::{Cq, QAtom, Term};
+
+#[cfg(test)]
+mod tests;
