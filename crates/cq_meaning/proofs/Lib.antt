@@ -1,12 +1,44 @@
+pub mod Again
+pub mod Apart
+pub mod Ascending
+pub mod AtomOrder
+pub mod ByLists
+pub mod Causes
 pub mod Chosen
+pub mod ClosureExists
+pub mod Complete
+pub mod Decided
+pub mod DisjointnessQueries
+pub mod Exact
 pub mod Extension
+pub mod Forbidden
+pub mod Joined
+pub mod Listed
+pub mod ListedMoves
+pub mod Matching
 pub mod Members
+pub mod Minimal
+pub mod Moves
 pub mod NameChase
 pub mod NameConflicts
+pub mod NormalBack
+pub mod NormalLaws
 mod NullExample
+pub mod Nulls
 pub mod Orders
+pub mod Places
 mod RankedExample
+pub mod Reached
+pub mod Rewrites
+pub mod Sameness
+pub mod Settled
 pub mod Single
-pub mod Stages
+pub mod Small
+pub mod Sound
 mod StaffExample
+pub mod Stages
 pub mod Subsumption
+pub mod Supports
+pub mod Unify
+pub mod UnifyBack
+pub mod Unique

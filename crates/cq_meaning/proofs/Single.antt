@@ -25,6 +25,9 @@ Entails-mono axioms F G h q tuple (k, (v, head, body)) = (k, (v, head, all q.bod
     all [] b = tt
     all (a ∷ xs) (b, bs) = ((b.0, InStage-mono axioms F G h k b.0 b.1, b.2), all xs bs)
 
+pub FactsEntail-mono : (kb : Knowledge) (q : Query) (tuple : List ℕ) (S T : ℕ → Type 0) → ((i : ℕ) → S i → T i) → FactsEntail kb S q tuple → FactsEntail kb T q tuple
+FactsEntail-mono kb q tuple S T h e = Entails-mono kb.axioms _ _ (facts_in-mono kb S T h) q tuple e
+
 pub brave_by_one : (kb : Knowledge) (own : ℕ → Bool) (clash : ℕ → ℕ → Bool) → TellConflicts kb own clash → (head : List Term) (a : QAtom) (tuple : List ℕ)
     → IsBrave kb mode.All (record { head = head; body = a ∷ [] }) tuple ↔ ((i : ℕ) × (i < length kb.facts) × AreConsistent kb (Only i) × FactsEntail kb (Only i) (record { head = head; body = a ∷ [] }) tuple)
 brave_by_one kb own clash tell head a tuple = (to, from)

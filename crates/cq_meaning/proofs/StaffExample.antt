@@ -1,4 +1,4 @@
--- The staff_query register: the two facts conflict, and Staff(ann) is brave, neither AR nor IAR.
+-- The staff register: the two facts conflict, and Staff(ann) is brave, neither AR nor IAR.
 use Rattle.std.proofs.Common.{◌≡◌, ℕ, zero, suc, ◌⊎◌, inl, inr, [], ◌∷◌, Contains, refl, sym, subst, arith, Some, slice_get, Bool, eqb, ◌<◌, eqb-true, true≢false, IsFalse}
 use Rattle.cq_terms.specs.declared.axioms.Axiom.{Axiom}
 use Rattle.cq_terms.specs.declared.facts.Fact.{Fact}

@@ -1,16 +1,16 @@
 -- The laws that the crate's functions prove.
-use Rattle.std.specs.Prelude.{ℕ, ◌<◌, List, [], ◌∷◌, length, All, Contains, Bool, ◌↔◌}
+use Rattle.std.specs.Prelude.{◌≡◌, ℕ, ◌<◌, ◌⊎◌, List, [], ◌∷◌, length, All, Contains, Bool, ◌↔◌}
 use Rattle.cq_terms.specs.declared.axioms.Axiom.{Axiom}
 use Rattle.cq_terms.specs.declared.facts.Fact.{Fact}
 use Rattle.cq_terms.specs.declared.facts.Repairs.{Repairs}
 use Rattle.cq_terms.specs.declared.facts.Repairs.TheVariants as mode
 use Rattle.cq_terms.specs.Knowledge.{Knowledge}
-use Rattle.cq_meaning.specs.Candidates.{Every, concept_query, IsWitness}
+use Rattle.cq_meaning.specs.Candidates.{Every, Without, concept_query, IsWitness}
 use Rattle.cq_meaning.specs.Chase.{Atom, InStage}
 use Rattle.cq_meaning.specs.ConceptNames.{IsOfNames, IsOfName, PutsInto, PutsSafelyInto, ClashByNames}
-use Rattle.cq_meaning.specs.Conflicts.{In, Only, facts_in, AreConsistent, FactsEntail, Conflict, IsConflictFree, TellConflicts}
+use Rattle.cq_meaning.specs.Conflicts.{In, Only, facts_in, AreConsistent, FactsEntail, Conflict, IsConflictFree}
 use Rattle.cq_meaning.specs.Cores.{IsCore}
-use Rattle.cq_meaning.specs.Repairs.{IsRepair, IsChosen, IsAcyclic, IsBrave}
+use Rattle.cq_meaning.specs.Repairs.{IsBetter, IsRepair, IsChosen, IsLocallyOptimal, IsAcyclic, IsBrave}
 
 -- each atom of a stage descends from one fact
 abbrev pub EachAtomDescends : Type 0
@@ -26,17 +26,28 @@ EachAtomDescendsByNumber = (kb : Knowledge) (S : ℕ → Bool) (k : ℕ) (x : At
 abbrev pub ConsistentByPairs : Type 0
 ConsistentByPairs = (kb : Knowledge) (S : ℕ → Bool) → AreConsistent kb (In S) ↔ IsConflictFree kb (In S)
 
--- a consistent set of facts lies in a repair, where the conflicts can be told
+-- a set that is not consistent, but is without any one of its facts, has one fact or two
+abbrev pub MinimalInconsistentHasTwo : Type 0
+MinimalInconsistentHasTwo = (kb : Knowledge) (S : ℕ → Bool) → ¬ AreConsistent kb (In S) → ((i : ℕ) → In S i → AreConsistent kb (Without i (In S)))
+    → (i : ℕ) × (j : ℕ) × In S i × In S j × ((l : ℕ) → In S l → (l ≡ i) ⊎ (l ≡ j))
+
+-- a consistent set of facts lies in a repair
 abbrev pub ExtendsToRepair : Type 0
-ExtendsToRepair = (kb : Knowledge) (own : ℕ → Bool) (clash : ℕ → ℕ → Bool) → TellConflicts kb own clash
-    → (S : ℕ → Bool) → AreConsistent kb (In S)
+ExtendsToRepair = (kb : Knowledge) (S : ℕ → Bool) → AreConsistent kb (In S)
     → (R : ℕ → Bool) × IsRepair kb R × ((i : ℕ) → In S i → In R i)
 
--- under an acyclic priority a core lies in a chosen repair that has nothing of what the core drops, where the conflicts
--- can be told
+-- a set is a chosen repair exactly where it is consistent, and each self-consistent fact outside it conflicts with one inside
+-- to which it is not better
+abbrev pub LocalForm : Type 0
+LocalForm = (kb : Knowledge) (mode : Repairs) (R : ℕ → Bool) → IsChosen kb mode R ↔ IsLocallyOptimal kb (IsBetter kb mode) R
+
+-- under an acyclic priority there is a chosen repair
+abbrev pub ChosenExists : Type 0
+ChosenExists = (kb : Knowledge) (mode : Repairs) → IsAcyclic kb mode → (R : ℕ → Bool) × IsChosen kb mode R
+
+-- under an acyclic priority a core lies in a chosen repair that has nothing of what the core drops
 abbrev pub CoreExtends : Type 0
-CoreExtends = (kb : Knowledge) (mode : Repairs) (own : ℕ → Bool) (clash : ℕ → ℕ → Bool) → TellConflicts kb own clash → IsAcyclic kb mode
-    → (kept dropped : ℕ → Bool) → IsCore kb mode kept dropped
+CoreExtends = (kb : Knowledge) (mode : Repairs) → IsAcyclic kb mode → (kept dropped : ℕ → Bool) → IsCore kb mode kept dropped
     → (R : ℕ → Bool) × IsChosen kb mode R × ((i : ℕ) → In kept i → In R i) × ((i : ℕ) → i < length kb.facts → In dropped i → ¬ In R i)
 
 -- who is a candidate for a concept, by which facts alone, and who is in it by some repair

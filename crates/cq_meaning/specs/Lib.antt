@@ -6,4 +6,8 @@ pub mod Cores
 pub mod Entailment
 pub mod Examples
 pub mod Laws
+pub mod NormalForm
 pub mod Repairs
+pub mod Rewriting
+pub mod RewritingLaws
+pub mod VerdictLaws
