@@ -1,0 +1,12 @@
+pub mod Anywhere
+pub mod ClosureLemmas
+pub mod Derivations
+pub mod NormalSafe
+pub mod OneResult
+pub mod OrderedMoves
+pub mod Ordering
+pub mod ReduceSafe
+pub mod Rounds
+pub mod Same
+pub mod StepSafe
+pub mod Without

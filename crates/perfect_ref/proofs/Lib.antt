@@ -1,0 +1,4 @@
+pub mod CodeLemmas
+pub mod SearchLemmas
+pub mod Shorter
+pub mod TurnLemmas

@@ -1,0 +1,3 @@
+pub mod BreadthFirst
+pub mod Code
+pub mod Search

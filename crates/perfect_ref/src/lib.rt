@@ -1,0 +1,12 @@
+//! The closure of a query under axioms, by PerfectRef (Calvanese and others 2007).
+#![tactic(auto)]
+
+mod breadth_first;
+mod code;
+mod known;
+mod refusal;
+#[cfg(test)]
+mod tests;
+
+pub use breadth_first::close;
+pub use refusal::CloseRefusal;
