@@ -1,0 +1,5 @@
+pub mod GroupSizes
+pub mod GroupFills
+pub mod GroupLists
+pub mod PlaceLemmas
+pub mod Told

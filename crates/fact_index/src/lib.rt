@@ -1,0 +1,11 @@
+//! The facts of a table, with the lists of the numbers of those of each predicate.
+#![tactic(auto)]
+
+mod gathered;
+mod groups;
+mod index;
+mod place;
+#[cfg(test)]
+mod tests;
+
+pub use index::Index;
