@@ -1,0 +1,12 @@
+pub mod ClosureLemmas
+pub mod MarkLemmas
+pub mod NameLemmas
+pub mod TableLemmas
+pub mod CoreLemmas
+pub mod RuleLemmas
+pub mod SplitLemmas
+pub mod CandidateLemmas
+pub mod AcceptanceLemmas
+pub mod BrokenLemmas
+pub mod ConfirmLemmas
+pub mod TruthLemmas

@@ -1,0 +1,12 @@
+pub mod Acceptance
+pub mod Candidates
+pub mod Closure
+pub mod Cores
+pub mod Marks
+pub mod Names
+pub mod Progress
+pub mod RuleWords
+pub mod Rules
+pub mod Split
+pub mod Tables
+pub mod Truth

@@ -1,0 +1,20 @@
+//! Confirms a report by the definitions alone: whoever wrote it, what is confirmed is true.
+#![tactic(auto)]
+
+mod closure;
+mod confirmed;
+mod confirming;
+mod cores;
+mod marks;
+mod names;
+mod progress;
+mod rule;
+mod rules;
+mod split;
+mod tables;
+#[cfg(test)]
+mod tests;
+
+pub use confirmed::{ConfirmFault, Confirmed};
+pub use confirming::confirm;
+pub use rule::Rule;
