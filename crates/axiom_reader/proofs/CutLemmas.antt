@@ -1,54 +1,80 @@
--- Bytes cut at the first of one kind.
-use Rattle.std.proofs.Common.{zero, suc, ◌≡◌, ◌≢◌, ℕ, ◌<◌, ◌+◌, ◌-◌, Bool, true, false, cond, not, ltb, List, [], ◌∷◌, ◌++◌, length, take, drop, get_or, eqb, refl, sym, ap, ◌∙◌, arith, add-one, Some, None, position, length-drop}
-use Rattle.std.specs.List.{position_or_len}
-use Rattle.std.proofs.Math.Seq.{drop-cons, take-length}
-use Rattle.std.proofs.lemmas.Bool.Decides.{Decides-eqb, Decides-ltb}
+-- Lists cut at the first element that passes a test.
+use Rattle.std.proofs.Common.{suc, ◌≡◌, ℕ, ◌<◌, ◌≤◌, ◌+◌, Bool, true, false, cond, not, ltb, List, [], ◌∷◌, ◌++◌, length, take, drop, Some, None, position, unwrap_or, refl, sym, arith}
+use Rattle.std.specs.List.{AllByRecursion, position_or_len}
+use Rattle.std.proofs.Math.Seq.{take-length}
+use Rattle.std.proofs.lemmas.Bool.Decides.{Decides-ltb}
 use Rattle.std.proofs.lemmas.List.{take-append-drop}
-use Rattle.std.proofs.lemmas.List.Quantifiers.{position-Some}
-use Rattle.axiom_reader.specs.Parts.{Lacks, IsCut}
+use Rattle.std.proofs.lemmas.List.Sums.{prefix_len-le-length}
 
--- the bytes before a place lack one that stands at no place before it
-lacks_front : (at : ℕ) (bytes : List ℕ) (place : ℕ) → ((k : ℕ) → k < place → get_or bytes k 0 ≢ at) → place < length bytes → Lacks at (take place bytes)
-lacks_front at bytes zero apart lt = tt
-lacks_front at [] (suc place) apart lt = tt
-lacks_front at (byte ∷ bytes) (suc place) apart lt =
-    (apart 0 (omega arith), lacks_front at bytes place (λ k below. apart (suc k) (omega arith)) (omega arith))
+-- no element passes the test
+abbrev pub Fails : (ℕ → Bool) → List ℕ → Type 0
+Fails p xs = AllByRecursion (λ x. p x ≡ false) xs
 
--- bytes are cut at the place of the first of one kind
-pub cut_at : (at : ℕ) (bytes : List ℕ) (place : ℕ) → position (λ byte. eqb byte at) bytes ≡ Some place → IsCut at bytes (take place bytes) (take (length bytes - (place + 1)) (drop (place + 1) bytes))
-cut_at at bytes place e =
-    let found = position-Some (λ byte. eqb byte at) bytes place 0 e in
-    let here : get_or bytes place 0 ≡ at = (Decides-eqb _ _).0 found.1 in
-    let split : drop place bytes ≡ at ∷ drop (place + 1) bytes = drop-cons bytes place 0 found.0 ∙ rw (here, add-one) refl in
-    let all : take (length bytes - (place + 1)) (drop (place + 1) bytes) ≡ drop (place + 1) bytes = rw (← length-drop (place + 1) bytes) (take-length (drop (place + 1) bytes)) in
-    record {
-      whole = rw all (sym (take-append-drop place bytes) ∙ ap (λ rest. take place bytes ++ rest) split);
-      first = lacks_front at bytes place (λ k below same. let no = found.2 k below in let yes = (Decides-eqb _ _).1 same in cc) found.0;
-    }
+-- the first element, if there is one, passes the test
+abbrev pub Starts : (ℕ → Bool) → List ℕ → Type 0
+Starts p [] = Unit {0}
+Starts p (x ∷ xs) = p x ≡ true
 
--- bytes that have one of the kind have a first
-no_cut : (at : ℕ) (before after : List ℕ) → position_or_len (λ byte. eqb byte at) (before ++ at ∷ after) < length (before ++ at ∷ after)
-no_cut at [] after = let same : eqb at at ≡ true = (Decides-eqb at at).1 refl in rw same (omega arith)
-no_cut at (byte ∷ before) after = step (eqb byte at) _ _ (no_cut at before after)
+-- one more element before those that fail
+before_step : (p : ℕ → Bool) (x : ℕ) (xs : List ℕ) (n : ℕ) (b : Bool) → p x ≡ b → Fails p (take n xs)
+    → Fails p (take (cond (not b) (1 + n) 0) (x ∷ xs))
+before_step p x xs n true e h = tt
+before_step p x xs n false e h = let one : 1 + n ≡ suc n = omega arith in rw one (e, h)
+
+-- what stands before the first that passes fails
+pub Fails-before : (p : ℕ → Bool) (xs : List ℕ) → Fails p (take (position_or_len p xs) xs)
+Fails-before p [] = tt
+Fails-before p (x ∷ xs) = before_step p x xs (position_or_len p xs) (p x) refl (Fails-before p xs)
+
+-- one more element before the first that passes
+from_step : (p : ℕ → Bool) (x : ℕ) (xs : List ℕ) (n : ℕ) (b : Bool) → p x ≡ b → Starts p (drop n xs)
+    → Starts p (drop (cond (not b) (1 + n) 0) (x ∷ xs))
+from_step p x xs n true e h = e
+from_step p x xs n false e h = let one : 1 + n ≡ suc n = omega arith in rw one h
+
+-- what stands from the first that passes on starts with it
+pub Starts-from : (p : ℕ → Bool) (xs : List ℕ) → Starts p (drop (position_or_len p xs) xs)
+Starts-from p [] = tt
+Starts-from p (x ∷ xs) = from_step p x xs (position_or_len p xs) (p x) refl (Starts-from p xs)
+
+-- the place of the first that passes is within the list
+pub position_or_len-le : (p : ℕ → Bool) (xs : List ℕ) → position_or_len p xs ≤ length xs
+position_or_len-le p xs = prefix_len-le-length (λ x. not (p x)) xs
+
+-- a place that is found is that of the first that passes
+pub found_place : (p : ℕ → Bool) (xs : List ℕ) (i : ℕ) → position p xs ≡ Some i → (i ≡ position_or_len p xs) × (i < length xs)
+found_place p xs i e = by (ltb (position_or_len p xs) (length xs)) refl e
   where
-    step : (b : Bool) (n m : ℕ) → n < m → cond (not b) (1 + n) 0 < suc m
-    step true n m lt = omega arith
-    step false n m lt = omega arith
+    by : (b : Bool) → ltb (position_or_len p xs) (length xs) ≡ b → cond b (Some (position_or_len p xs)) None ≡ Some i
+        → (i ≡ position_or_len p xs) × (i < length xs)
+    by true t s =
+        let same : i ≡ position_or_len p xs = cc in
+        (same, let lt : position_or_len p xs < length xs = (Decides-ltb _ _).0 t in omega arith)
+    by false t s = cc
 
--- where there is no place of the first, the bytes have none of the kind
-pub no_place : (at : ℕ) (bytes : List ℕ) → None ≡ position (λ byte. eqb byte at) bytes → (before after : List ℕ) → bytes ≢ before ++ at ∷ after
-no_place at bytes none before after e =
-    let lt : position_or_len (λ byte. eqb byte at) bytes < length bytes = rw e (no_cut at before after) in
-    let yes : ltb (position_or_len (λ byte. eqb byte at) bytes) (length bytes) ≡ true = (Decides-ltb _ _).1 lt in
-    let both : None ≡ Some (position_or_len (λ byte. eqb byte at) bytes) = none ∙ rw yes refl in
-    cc
+-- where no place is found, all fail
+pub no_place : (p : ℕ → Bool) (xs : List ℕ) → position p xs ≡ None → Fails p xs
+no_place p xs e = by (ltb (position_or_len p xs) (length xs)) refl e
+  where
+    by : (b : Bool) → ltb (position_or_len p xs) (length xs) ≡ b → cond b (Some (position_or_len p xs)) None ≡ None → Fails p xs
+    by true t s = cc
+    by false t s =
+        let no : position_or_len p xs < length xs → ⊥ = λ lt. let yes = (Decides-ltb (position_or_len p xs) (length xs)).1 lt in cc in
+        let all : position_or_len p xs ≡ length xs = omega (arith, position_or_len-le p xs) in
+        let front : Fails p (take (length xs) xs) = rw all at (Fails-before p xs) in
+        rw take-length at front
 
--- bytes are cut in one way
-pub cut_once : (at : ℕ) (before after others rest : List ℕ) → Lacks at before → Lacks at others → before ++ at ∷ after ≡ others ++ at ∷ rest → (before ≡ others) × (after ≡ rest)
-cut_once at [] after [] rest lacks apart e = (refl, cc)
-cut_once at [] after (byte ∷ others) rest lacks apart e = let same : byte ≡ at = cc in absurd (apart.0 same)
-cut_once at (byte ∷ before) after [] rest lacks apart e = let same : byte ≡ at = cc in absurd (lacks.0 same)
-cut_once at (byte ∷ before) after (other ∷ others) rest lacks apart e =
-    let more = cut_once at before after others rest lacks.1 apart.1 cc in
-    let same : byte ≡ other = cc in
-    (rw (same, more.0) refl, more.1)
+-- a list is what stands before a place and from there on
+pub whole : (xs : List ℕ) (i : ℕ) → xs ≡ take i xs ++ drop i xs
+whole xs i = sym (take-append-drop i xs)
+
+-- the place that is found, or the length
+pub unwrap_or-position : (p : ℕ → Bool) (xs : List ℕ) → unwrap_or (position p xs) (length xs) ≡ position_or_len p xs
+unwrap_or-position p xs = by (ltb (position_or_len p xs) (length xs)) refl
+  where
+    by : (b : Bool) → ltb (position_or_len p xs) (length xs) ≡ b
+        → unwrap_or (cond b (Some (position_or_len p xs)) None) (length xs) ≡ position_or_len p xs
+    by true t = refl
+    by false t =
+        let no : position_or_len p xs < length xs → ⊥ = λ lt. let yes = (Decides-ltb (position_or_len p xs) (length xs)).1 lt in cc in
+        omega (arith, position_or_len-le p xs)

@@ -1,5 +1,9 @@
 pub mod CutLemmas
-pub mod GrammarLemmas
+pub mod LineLemmas
 pub mod NameLemmas
+pub mod OutcomeLemmas
+pub mod ParseLemmas
 pub mod ReadingLemmas
+pub mod TestLemmas
 pub mod TextLemmas
+pub mod WordLemmas

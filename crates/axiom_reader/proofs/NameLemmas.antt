@@ -1,17 +1,12 @@
 -- Which bytes a name has.
-use Rattle.std.proofs.Common.{◌≡◌, ℕ, ◌<◌, Bool, true, false, ◌&&◌, not, List, [], ◌∷◌, length, refl, sym, ap, ◌∙◌, arith}
+use Rattle.std.proofs.Common.{◌≡◌, ℕ, ◌<◌, true, ◌&&◌, not, List, [], ◌∷◌, length, refl, arith}
 use Rattle.std.specs.List.{list_all}
 use Rattle.std.specs.Str.{IsAscii, IsUtf8}
 use Rattle.std.proofs.lemmas.Bool.Decides.{nat_tests}
 use Rattle.std.proofs.lemmas.Str.{IsUtf8-from_ascii}
 use Rattle.std.proofs.lemmas.Str.Ascii.{IsAscii-nil, IsAscii-cons}
 use Rattle.axiom_reader.specs.Name.{is_first, is_later, is_keyword, is_name_text, IsName}
-use Rattle.axiom_reader.specs.Parts.{Lacks}
-
--- both of two tests hold
-both : (a b : Bool) → (a && b) ≡ true → (a ≡ true) × (b ≡ true)
-both true b h = (refl, h)
-both false b h = cc
+use Rattle.axiom_reader.proofs.TestLemmas.{both}
 
 -- a name may go on with any byte that it may begin with
 later_first : (byte : ℕ) → is_first byte ≡ true → is_later byte ≡ true
@@ -29,13 +24,6 @@ all_later (byte ∷ bytes) h =
     let parts = both (is_first byte && list_all is_later bytes) (not (is_keyword (byte ∷ bytes))) h in
     let form = both (is_first byte) (list_all is_later bytes) parts.0 in
     rw (later_first byte form.0) form.1
-
--- a name lacks each byte that a name can't go on with
-pub lacks_other : (at : ℕ) → is_later at ≡ false → (bytes : List ℕ) → list_all is_later bytes ≡ true → Lacks at bytes
-lacks_other at other [] h = tt
-lacks_other at other (byte ∷ bytes) h =
-    let parts = both (is_later byte) (list_all is_later bytes) h in
-    (λ same. let no : true ≡ false = sym parts.0 ∙ ap is_later same ∙ other in cc, lacks_other at other bytes parts.1)
 
 -- bytes that a name may go on with are ASCII
 later_is_ascii : (bytes : List ℕ) → list_all is_later bytes ≡ true → IsAscii bytes
@@ -55,6 +43,7 @@ empty_is_no_name [] h name = cc
 empty_is_no_name (byte ∷ bytes) h name = absurd (omega arith)
 
 -- what is asked of bytes that aren't empty
-pub is_name_text-cons : (bytes : List ℕ) (first : ℕ) (later : List ℕ) → bytes ≡ first ∷ later → is_name_text bytes ≡ (is_first first && list_all is_later later && not (is_keyword bytes))
+pub is_name_text-cons : (bytes : List ℕ) (first : ℕ) (later : List ℕ) → bytes ≡ first ∷ later
+    → is_name_text bytes ≡ (is_first first && list_all is_later later && not (is_keyword bytes))
 unfolding is_name_text
 is_name_text-cons bytes first later e = rw e refl

@@ -1,54 +1,76 @@
--- What a reader of an ontology makes of its lines.
-use Rattle.std.specs.Prelude.{◌≡◌, ℕ, ◌+◌, ◌<◌, ◌^◌, Bool, List, [], ◌∷◌, ◌++◌, length, slice_get, Some, if◌then◌else◌}
-use Rattle.cq_terms.specs.Names.{with_text}
-use Rattle.cq_terms.specs.declared.axioms.Axiom.{Axiom}
-use Rattle.cq_terms.specs.declared.axioms.Axiom.TheVariants as axiom_kind
-use Rattle.cq_terms.specs.declared.axioms.Basic.TheVariants as basic
-use Rattle.cq_terms.specs.declared.names.Vocab.{Vocab}
-use Rattle.axiom_reader.specs.Lines.{NamedAxiom, AreLines}
+-- What each line gives, and what a text comes to.
+use Rattle.std.specs.Prelude.{◌≡◌, ℕ, ◌+◌, ◌≤◌, ◌⊎◌, List, [], ◌∷◌, ◌++◌, length, IsTrue}
+use Rattle.std.specs.Str.{IsUtf8}
+use Rattle.axiom_reader.specs.Axioms.{NamedAxiom, Says}
+use Rattle.axiom_reader.specs.Lines.{is_silent, lines_of}
 
--- the bytes and the longest list of the vocabulary have fewer than 2^31 items together
-pub record HasRoom (bytes : List ℕ) (vocab : Vocab) : Type 0 where
-  pub concepts : length bytes + length vocab.concepts < 2 ^ 31
-  pub roles : length bytes + length vocab.roles < 2 ^ 31
-  pub inds : length bytes + length vocab.inds < 2 ^ 31
+-- what a line may give
+pub data LineOutcome : Type 0 where
+  nothing : LineOutcome
+  one : NamedAxiom → LineOutcome
+  not_utf8 : LineOutcome
+  bad : LineOutcome
 
--- the new list is the old one, and maybe more at its end
-abbrev pub IsPrefix : List (List ℕ) → List (List ℕ) → Type 0
-IsPrefix old new = (more : List (List ℕ)) × (new ≡ old ++ more)
+-- what a line gives: one that isn't silent is one axiom, and else faulty
+abbrev pub Gives : List ℕ → LineOutcome → Type 0
+Gives line nothing = IsTrue (is_silent line)
+Gives line (one named) = (¬ (IsTrue (is_silent line))) × IsUtf8 line × Says line named
+Gives line not_utf8 = (¬ (IsTrue (is_silent line))) × (¬ (IsUtf8 line))
+Gives line bad = (¬ (IsTrue (is_silent line))) × IsUtf8 line × ((named : NamedAxiom) → ¬ (Says line named))
 
--- the texts after the names of a line were put, the left one first
-abbrev pub with_names : List (List ℕ) → NamedAxiom → List (List ℕ)
-with_names texts line = with_text (with_text texts line.left) line.right
+-- each line gives nothing or an axiom, and these are the axioms in order
+abbrev pub GiveAxioms : List (List ℕ) → List NamedAxiom → Type 0
+GiveAxioms [] axioms = axioms ≡ []
+GiveAxioms (line ∷ lines) axioms =
+    (Gives line nothing × GiveAxioms lines axioms)
+    ⊎ ((first : NamedAxiom) × (more : List NamedAxiom) × Gives line (one first) × GiveAxioms lines more × (axioms ≡ first ∷ more))
 
--- the texts after the names of all lines were put, in order
-abbrev pub names_after : List (List ℕ) → List NamedAxiom → List (List ℕ)
-names_after texts [] = texts
-names_after texts (line ∷ lines) = names_after (with_names texts line) lines
+-- how many axioms a text may have
+abbrev pub most_axioms : ℕ
+most_axioms = 20000
 
--- the inclusion or disjointness of two concepts, by their numbers
-abbrev pub axiom_of : Bool → ℕ → ℕ → Axiom
-axiom_of negated left right =
-    if negated then axiom_kind.Disjoint (basic.Concept left) (basic.Concept right)
-    else axiom_kind.Sub (basic.Concept left) (basic.Concept right)
+-- why a text may be refused
+pub data Fault : Type 0 where
+  line_not_utf8 : Fault
+  bad_line : Fault
+  too_many : Fault
 
--- the axiom is the line's, where each concept is numbered by the place of its name
-pub record IsAxiomOf (texts : List (List ℕ)) (line : NamedAxiom) (given : Axiom) : Type 0 where
-  pub left : ℕ
-  pub right : ℕ
-  pub left_name : slice_get texts left ≡ Some line.left
-  pub right_name : slice_get texts right ≡ Some line.right
-  pub axiom_is : given ≡ axiom_of line.negated left right
+-- the line has the fault where so many axioms stand before it
+abbrev pub HasFault : Fault → ℕ → List ℕ → Type 0
+HasFault line_not_utf8 count line = Gives line not_utf8
+HasFault bad_line count line = Gives line bad
+HasFault too_many count line = (count ≡ most_axioms) × ((named : NamedAxiom) × Gives line (one named))
 
--- each axiom is that of the line at its place
-abbrev pub AreAxioms : List (List ℕ) → List NamedAxiom → List Axiom → Type 0
-AreAxioms texts [] [] = Unit {0}
-AreAxioms texts (line ∷ lines) (given ∷ axioms) = IsAxiomOf texts line given × AreAxioms texts lines axioms
-AreAxioms texts lines axioms = ⊥
+-- the first line that has a fault has this one, and this number, from 1
+pub record FirstFault (bytes : List ℕ) (fault : Fault) (number : ℕ) : Type 0 where
+  pub before : List (List ℕ)
+  pub line : List ℕ
+  pub after : List (List ℕ)
+  pub axioms : List NamedAxiom
+  pub lines : lines_of bytes ≡ before ++ line ∷ after
+  pub place : number ≡ length before + 1
+  pub given : GiveAxioms before axioms
+  pub few : length axioms ≤ most_axioms
+  pub has_fault : HasFault fault (length axioms) line
 
--- the bytes are lines whose names were put after the old texts, and the axioms are theirs
-pub record Reads (bytes : List ℕ) (old new : List (List ℕ)) (axioms : List Axiom) : Type 0 where
-  pub lines : List NamedAxiom
-  pub text : AreLines bytes lines
-  pub names : new ≡ names_after old lines
-  pub meaning : AreAxioms new lines axioms
+-- what a text may come to
+pub data TextOutcome : Type 0 where
+  reads : List NamedAxiom → TextOutcome
+  refuses : Fault → ℕ → TextOutcome
+
+-- what a text comes to
+abbrev pub ComesTo : List ℕ → TextOutcome → Type 0
+ComesTo bytes (reads axioms) = GiveAxioms (lines_of bytes) axioms × (length axioms ≤ most_axioms)
+ComesTo bytes (refuses fault number) = FirstFault bytes fault number
+
+-- there is one such thing, and no other
+abbrev pub ExactlyOne : {A : Type 0} → (A → Type 0) → Type 0
+ExactlyOne {A} Is = ((one : A) × Is one) × ((first second : A) → Is first → Is second → first ≡ second)
+
+-- each line gives exactly one thing
+abbrev pub EachLineGivesOneThing : Type 0
+EachLineGivesOneThing = (line : List ℕ) → ExactlyOne (Gives line)
+
+-- no text has two readings: each comes to exactly one thing
+abbrev pub EachTextHasOneReading : Type 0
+EachTextHasOneReading = (bytes : List ℕ) → ExactlyOne (ComesTo bytes)

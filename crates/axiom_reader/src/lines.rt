@@ -1,80 +1,80 @@
-//! Lines, each taken from the front of the text and seen as an axiom over names.
+//! Lines, each taken from the front of a text, and what they give.
 
-ghost use Rattle.std.specs.Prelude.{◌≡◌, ◌≢◌, ◌==◌, ◌++◌, ◌∷◌, List, ℕ, position, IfSome, IfNone};
-ghost use Rattle.axiom_reader.specs.Lines.{NamedAxiom};
-ghost use Rattle.axiom_reader.specs.Parts.{BeginsWith, IsCut, IsSigned, IsWritten, view};
+ghost use Rattle.std.specs.Prelude.{◌≡◌, ◌≤◌, ◌<◌, length, position};
+ghost use Rattle.axiom_reader.specs.Lines.{is_line_end, skip_marks, without_return};
+ghost use Rattle.axiom_reader.specs.Parts.{IsFirstLine, outcome_of};
+ghost use Rattle.axiom_reader.specs.Reading.{Gives};
 
-use crate::name::name;
+use crate::axiom::{NamedAxiom, axiom};
+use crate::words::is_silent;
 
-/// A line's axiom over names.
+/// What a line gives.
 #[derive(Clone, Copy, Debug)]
-pub(crate) struct NamedLine<'a> {
-    /// The name before the sign.
-    pub left: &'a str,
-    /// Whether `not` stands before the right name.
-    pub negated: bool,
-    /// The name after the sign.
-    pub right: &'a str,
+pub(crate) enum Line<'a> {
+    /// Nothing: the line is blank or a comment.
+    Nothing,
+    /// An axiom over names.
+    Axiom(NamedAxiom<'a>),
+    /// A fault: the line isn't UTF-8.
+    NotUtf8,
+    /// A fault: the line has no form of an axiom.
+    Bad,
 }
 
-/// The line at the front of the text and the bytes after it, or `None` where the text begins with no axiom's line.
-pub(crate) fn first_line(text: &[u8]) -> Option<(NamedLine<'_>, &[u8])>
-    ensures found { IfSome result (λ taken. BeginsWith text.now (view taken.0) taken.1.now) }
-    ensures none { IfNone result
-        ((line : NamedAxiom) (after : List ℕ) → ¬ (BeginsWith text.now line after)) }
+/// What a line without its end gives.
+pub(crate) fn line_of(text: &[u8]) -> Line<'_>
+    ensures exact { Gives text.now (outcome_of result) }
 {
-    let (words, after) = split_line(text)?;
-    Some((named_line(words)?, after))
-}
-
-/// The first line without its end and the bytes after it, or `None` where no line ends.
-fn split_line(text: &[u8]) -> Option<(&[u8], &[u8])>
-    ensures found { IfSome result (λ parts. IsCut 10 text.now parts.0.now parts.1.now) }
-    ensures none { IfNone result ((before after : List ℕ) → text.now ≢ before ++ 10 ∷ after) }
-{
-    cut(text, b'\n')
-}
-
-/// The axiom that a line without its end writes, or `None` where it writes none.
-fn named_line(words: &[u8]) -> Option<NamedLine<'_>>
-    ensures found { IfSome result (λ line. IsWritten words.now (view line)) }
-    ensures none { IfNone result ((line : NamedAxiom) → ¬ (IsWritten words.now line)) }
-{
-    let (left, tail) = cut(words, b' ')?;
-    let (negated, right) = signed(tail)?;
-    let left = name(left)?;
-    let right = name(right)?;
-    Some(NamedLine {
-        left,
-        negated,
-        right,
-    })
-}
-
-/// What follows the sign, and whether that is negated, or `None` where the bytes don't begin with the sign.
-fn signed(tail: &[u8]) -> Option<(bool, &[u8])>
-    ensures found { IfSome result (λ side. IsSigned tail.now side.0 side.1.now) }
-    ensures none { IfNone result ((right : List ℕ) → tail.now ≢ 60 ∷ 32 ∷ right) }
-{
-    let right = tail.strip_prefix(b"< ".as_slice())?;
-    match right.strip_prefix(b"not ".as_slice()) {
-        Some(negated) => Some((true, negated)),
-        None => Some((false, right)),
+    if is_silent(text) {
+        return Line::Nothing;
+    }
+    if str::from_utf8(text).is_err() {
+        return Line::NotUtf8;
+    }
+    match axiom(text) {
+        Some(named) => Line::Axiom(named),
+        None => Line::Bad,
     }
 }
 
-/// The bytes before the first `at` and those after it, or `None` where there is none.
-fn cut(bytes: &[u8], at: u8) -> Option<(&[u8], &[u8])>
-    ensures found { IfSome result (λ parts. IsCut at bytes.now parts.0.now parts.1.now) }
-    ensures none { IfNone result ((before after : List ℕ) → bytes.now ≢ before ++ at ∷ after) }
+/// The bytes after every byte order mark at the beginning.
+pub(crate) fn skip_marks(bytes: &[u8]) -> &[u8]
+    ensures exact { result.now ≡ skip_marks bytes.now }
+    ensures shorter { length result.now ≤ length bytes.now }
 {
-    let place = place_of(bytes, at)?;
-    Some((&bytes[..place], &bytes[place + 1..]))
+    let mut rest = bytes;
+    while rest.starts_with(&[0xEF, 0xBB, 0xBF]) {
+        rest = &rest[3..];
+    }
+    rest
 }
 
-/// The place of the first `at`, or `None` where there is none.
-fn place_of(bytes: &[u8], at: u8) -> Option<usize>
-    ensures exact { result ≡ position (λ byte. byte == at) bytes.now }
+/// The first line without its end, and what comes after that.
+pub(crate) fn first_line(text: &[u8]) -> (&[u8], &[u8])
+    requires more { 0 < length text.now }
+
+    ensures exact { IsFirstLine text.now result.0.now result.1.now }
 {
-    bytes.iter().position(|byte| *byte == at)
+    match line_end(text) {
+        Some(place) => (without_return(&text[..place]), &text[place + 1..]),
+        None => (without_return(text), &text[text.len()..]),
+    }
+}
+
+/// The place of the first LF, or `None` where there is none.
+fn line_end(text: &[u8]) -> Option<usize>
+    ensures exact { result ≡ position is_line_end text.now }
+{
+    text.iter().position(|byte| *byte == b'\n')
+}
+
+/// The line without a CR at its end.
+fn without_return(line: &[u8]) -> &[u8]
+    ensures exact { result.now ≡ without_return line.now }
+    ensures shorter { length result.now ≤ length line.now }
+{
+    let Some((last, before)) = line.split_last() else {
+        return line;
+    };
+    if *last == b'\r' { before } else { line }
 }

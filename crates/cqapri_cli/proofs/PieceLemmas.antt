@@ -1,7 +1,7 @@
 -- Texts that are written piece by piece.
 use Rattle.std.proofs.Common.{◌≡◌, ℕ, ◌+◌, ◌<◌, ◌≤◌, min, List, [], ◌∷◌, ◌++◌, length, take, drop, get_or, Option, Some, None, refl, sym, ap, ◌∙◌, arith, Bool, true, false, true≢false, Result, Ok, Err, OnErr}
 use Rattle.std.specs.List.{flat_map}
-use Rattle.std.proofs.lemmas.List.{take-append-drop, take-append-le, take_min, take_more, append_assoc, append-nil}
+use Rattle.std.proofs.lemmas.List.{take_all, take-append-drop, take-append-le, take_min, take_more, append_assoc, append-nil}
 use Rattle.std.proofs.lemmas.List.Concat.{flat_map-append}
 use Rattle.std.proofs.Math.Seq.{take-append-add}
 use Rattle.cq_io.specs.Faults.{CountsFault, TellsFault}
@@ -66,3 +66,7 @@ TellsFault-failed before now false e w = absurd (true≢false (sym e))
 pub OnErr-of : {T E P : Type 0} (r : Result T E) → P → OnErr r P
 OnErr-of (Ok x) p = tt
 OnErr-of (Err e) p = p
+
+-- all bytes are first ones of them
+pub all_first : (old mid new : Option (List ℕ)) (bytes : List ℕ) → mid ≡ appended old bytes → new ≡ mid → AppendsFirst old new bytes
+all_first old mid new bytes e d = (length bytes, d ∙ e ∙ ap (appended old) (sym (take_all (length bytes) bytes (omega arith))))

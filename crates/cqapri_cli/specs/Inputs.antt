@@ -1,55 +1,90 @@
--- The words of `classify`, the files that they name, and what these say.
-use Rattle.std.specs.Prelude.{◌≡◌, ℕ, ◌⊎◌, ◌<◌, ◌≤◌, List, [], ◌∷◌, length, Option, Some, None, IfSome, codes, Result, Err, Bool, true, false}
-use Rattle.cq_terms.specs.Knowledge.{Knowledge}
-use Rattle.cq_terms.specs.declared.names.Vocab.{Vocab}
-use Rattle.axiom_reader.specs.Lines.{NamedAxiom, AreLines}
-use Rattle.axiom_reader.specs.Reading.{Reads}
-use Rattle.cqapri_cli.specs.FactsForm.{NamedFact, AreFactLines, ReadsFacts}
-use Rattle.cqapri_cli.specs.QueryForm.{IsQueryText, NamesConcept}
-use Rattle.cqapri_cli.specs.declared.refusal.File.{File}
-use Rattle.cqapri_cli.specs.declared.refusal.File.TheVariants as file
+-- What each file is accepted for, and which refusal is its, in the words of its reader.
+use Rattle.std.specs.Prelude.{◌≡◌, ℕ, ◌⊎◌, ◌<◌, ◌≤◌, List, length, All, Option, Some, None, Result, Err, Bool, true, false}
+use Rattle.std.specs.List.{AllByRecursion}
+use Rattle.axiom_reader.specs.Axioms.{NamedAxiom}
+use Rattle.axiom_reader.specs.Meaning.{IsRefused}
+use Rattle.axiom_reader.specs.Reading.{ComesTo, reads}
+use Rattle.axiom_reader.specs.declared.refusal.AxiomRefusal.{AxiomRefusal}
+use Rattle.fact_tables.specs.FactRecords.{IsFactRecord, most_records}
+use Rattle.fact_tables.specs.Facts.{IsFactRefusal}
+use Rattle.fact_tables.specs.Tables.{records_of}
+use Rattle.fact_tables.specs.declared.refusal.FactRefusal.{FactRefusal}
+use Rattle.query_reader.specs.Grammar.{NamedQuery}
+use Rattle.query_reader.specs.Queries.{Explains, HasNoRepeats, IsInBody, IsShortText, after_marks}
+use Rattle.query_reader.specs.declared.refusal.QueryRefusal.{QueryRefusal}
+use Rattle.cqapri_cli.specs.Files.{FileNames, length_of, limit_of, name_of}
+use Rattle.cqapri_cli.specs.Refusals.{refusal_of_axioms, refusal_of_facts, refusal_of_query}
+use Rattle.cqapri_cli.specs.declared.files.File.{File}
+use Rattle.cqapri_cli.specs.declared.files.File.TheVariants as file
 use Rattle.cqapri_cli.specs.declared.refusal.Refusal.{Refusal}
+use Rattle.cqapri_cli.specs.declared.report_refusal.ReportRefusal.TheVariants as report_refusal
 use Rattle.cqapri_cli.specs.declared.refusal.Refusal.TheVariants as refusal
 
--- the names of the files of a job
-pub record FileNames : Type 0 where
-  pub ontology : List ℕ
-  pub facts : List ℕ
-  pub query : List ℕ
+-- the bytes are a table of facts: each record is that of a fact, and there are at most 200,000
+pub record IsTable (bytes : List ℕ) : Type 0 where
+  pub right : AllByRecursion IsFactRecord (records_of bytes)
+  pub few : length (records_of bytes) ≤ most_records
 
--- the words are `classify --ontology F --facts F --query F`
-abbrev pub AreWords : List (List ℕ) → FileNames → Type 0
-AreWords words names = words ≡ codes "classify" ∷ codes "--ontology" ∷ names.ontology ∷ codes "--facts" ∷ names.facts ∷ codes "--query" ∷ names.query ∷ []
+-- the bytes are a text of the query: at most 12 atoms, no variable twice in the head, and each of the head in the body
+pub record IsQuery (bytes : List ℕ) (query : NamedQuery) : Type 0 where
+  pub text : IsShortText (after_marks bytes) query
+  pub distinct : HasNoRepeats query.head
+  pub inside : All (IsInBody query.body) query.head
 
--- the name of a file
-abbrev pub name_of : FileNames → File → List ℕ
-name_of names file.Ontology = names.ontology
-name_of names file.Facts = names.facts
-name_of names file.Query = names.query
+-- the reader of the file accepts the bytes
+abbrev pub Accepts : File → List ℕ → Type 0
+Accepts file.Ontology bytes = (axioms : List NamedAxiom) × ComesTo bytes (reads axioms)
+Accepts file.Facts bytes = IsTable bytes
+Accepts file.Query bytes = (query : NamedQuery) × IsQuery bytes query
 
--- how many bytes a file may have
-abbrev pub limit_of : File → ℕ
-limit_of file.Ontology = 16777216
-limit_of file.Facts = 67108864
-limit_of file.Query = 65536
-
--- the bytes have the form of the file
-abbrev pub HasForm : File → List ℕ → Type 0
-HasForm file.Ontology bytes = (lines : List NamedAxiom) × AreLines bytes lines
-HasForm file.Facts bytes = (lines : List NamedFact) × AreFactLines bytes lines
-HasForm file.Query bytes = (concept : List ℕ) × IsQueryText bytes concept
+-- the reader of the file refuses the bytes, and this is its refusal
+abbrev pub Refuses : File → List ℕ → Refusal → Type 0
+Refuses file.Ontology bytes r = (refused : AxiomRefusal) × IsRefused bytes refused × (r ≡ refusal_of_axioms refused)
+Refuses file.Facts bytes r = (refused : FactRefusal) × IsFactRefusal bytes refused × (r ≡ refusal_of_facts refused)
+Refuses file.Query bytes r = (refused : QueryRefusal) × Explains (after_marks bytes) refused × (r ≡ refusal_of_query refused)
 
 -- what a shelf holds: the bytes under each name
 abbrev pub Held : Type 0
 Held = List ℕ → Option (List ℕ)
 
--- the file is there, within its limit and in form
-abbrev pub IsAccepted : Held → List ℕ → File → Type 0
-IsAccepted held name f = (bytes : List ℕ) × (held name ≡ Some bytes) × (length bytes ≤ limit_of f) × HasForm f bytes
+-- the file is there, within its limit, and its bytes have P
+pub record Holds (held : Held) (name : List ℕ) (f : File) (P : List ℕ → Type 0) : Type 0 where
+  pub bytes : List ℕ
+  pub there : held name ≡ Some bytes
+  pub short : length bytes ≤ limit_of f
+  pub has : P bytes
 
--- the file is there, and is longer than its limit or not in form
-abbrev pub IsOutOfForm : Held → List ℕ → File → Type 0
-IsOutOfForm held name f = (bytes : List ℕ) × (held name ≡ Some bytes) × ((limit_of f < length bytes) ⊎ ¬ HasForm f bytes)
+-- the file is there, and is longer than its limit
+pub record IsTooLong (held : Held) (name : List ℕ) (f : File) : Type 0 where
+  pub bytes : List ℕ
+  pub there : held name ≡ Some bytes
+  pub long : limit_of f < length bytes
+
+-- the file is there, within its limit, and its reader accepts it
+abbrev pub IsAccepted : Held → List ℕ → File → Type 0
+IsAccepted held name f = Holds held name f (Accepts f)
+
+-- why one file is refused, where it is
+abbrev pub StopsAt : Held → List ℕ → File → Refusal → Type 0
+StopsAt held name f (refusal.NotThere g) = (g ≡ f) × (held name ≡ None)
+StopsAt held name f (refusal.Faulty fault) = Holds held name f (λ bytes. Refuses f bytes (refusal.Faulty fault))
+StopsAt held name f (refusal.Limit quantity) =
+    ((quantity ≡ length_of f) × IsTooLong held name f)
+    ⊎ Holds held name f (λ bytes. Refuses f bytes (refusal.Limit quantity))
+StopsAt held name f (refusal.ReadFault g) = g ≡ f
+StopsAt held name f refusal.NoMemory = Unit {0}
+StopsAt held name f (refusal.Report why) = ⊥
+StopsAt held name f refusal.NotBuilt = ⊥
+StopsAt held name f refusal.Words = ⊥
+StopsAt held name f refusal.WriteFault = ⊥
+
+-- the refusal is one that reading files may give
+abbrev pub IsOfFiles : Refusal → Type 0
+IsOfFiles refusal.NotBuilt = ⊥
+IsOfFiles (refusal.Report why) = ⊥
+IsOfFiles refusal.Words = ⊥
+IsOfFiles refusal.WriteFault = ⊥
+IsOfFiles _ = Unit {0}
 
 -- the files before this one are accepted
 abbrev pub IsReached : Held → FileNames → File → Type 0
@@ -61,53 +96,12 @@ IsReached held names file.Query = IsAccepted held names.ontology file.Ontology �
 abbrev pub AreAccepted : Held → FileNames → Type 0
 AreAccepted held names = IsReached held names file.Query × IsAccepted held names.query file.Query
 
--- why one file is refused, where it is
-abbrev pub StopsAt : Held → List ℕ → File → Refusal → Type 0
-StopsAt held name f (refusal.NotThere g) = (g ≡ f) × (held name ≡ None)
-StopsAt held name f refusal.NotBuilt = IsOutOfForm held name f
-StopsAt held name f (refusal.ReadFault g) = g ≡ f
-StopsAt held name f refusal.NoMemory = Unit {0}
-StopsAt held name f refusal.Words = ⊥
-StopsAt held name f refusal.WriteFault = ⊥
-
--- the refusal is one that reading files may give
-abbrev pub IsOfFiles : Refusal → Type 0
-IsOfFiles refusal.Words = ⊥
-IsOfFiles refusal.WriteFault = ⊥
-IsOfFiles _ = Unit {0}
-
 -- why the files are refused: the first one that isn't accepted
 abbrev pub StopsFiles : Held → FileNames → Refusal → Type 0
 StopsFiles held names r = (f : File) × IsReached held names f × StopsAt held (name_of names f) f r
 
--- the bytes are those of the file, where the shelf tells, and within its limit
-pub record IsFetched (holds : Option Held) (name : List ℕ) (f : File) (bytes : List ℕ) : Type 0 where
-  pub held : IfSome holds (λ held. held name ≡ Some bytes)
-  pub short : length bytes ≤ limit_of f
-
 -- a fetch ended with a fault of the shelf
 abbrev pub is_read_fault : {T : Type 0} → Result T Refusal → Bool
 is_read_fault (Err (refusal.ReadFault f)) = true
+is_read_fault (Err (refusal.Report report_refusal.ReadFault)) = true
 is_read_fault _ = false
-
--- what the three texts say: the axioms, the distinct facts and the concept that is asked for, their names numbered in
--- this order
-pub record Says (ontology facts query : List ℕ) (kb : Knowledge) (concept : ℕ) (vocab : Vocab) : Type 0 where
-  pub after_ontology : Vocab
-  pub after_facts : Vocab
-  pub axioms : Reads ontology [] after_ontology.concepts kb.axioms
-  pub no_individual : after_ontology.inds ≡ []
-  pub facts_of : ReadsFacts facts after_ontology after_facts kb.facts
-  pub pairs : kb.pairs ≡ []
-  pub query_of : NamesConcept query after_facts.concepts vocab.concepts concept
-  pub individuals : vocab.inds ≡ after_facts.inds
-
--- what the named files say
-pub record FilesSay (holds : Option Held) (names : FileNames) (kb : Knowledge) (concept : ℕ) (vocab : Vocab) : Type 0 where
-  pub ontology : List ℕ
-  pub facts : List ℕ
-  pub query : List ℕ
-  pub ontology_file : IsFetched holds names.ontology file.Ontology ontology
-  pub facts_file : IsFetched holds names.facts file.Facts facts
-  pub query_file : IsFetched holds names.query file.Query query
-  pub says : Says ontology facts query kb concept vocab

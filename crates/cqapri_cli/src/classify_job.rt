@@ -1,35 +1,43 @@
 //! The job `classify`.
 
-ghost use Rattle.std.specs.Prelude.{◌≡◌, map, string_bytes, OnOk, IfOk, IfErr, length, ◌<◌, ◌^◌};
+ghost use Rattle.std.specs.Prelude.{◌≡◌, None, map, string_bytes, OnOk, IfOk, IfErr, length, ◌<◌, ◌^◌};
 ghost use Rattle.std.specs.List.{AllZip};
 ghost use Rattle.cq_io.specs.Faults.{TellsFault};
 ghost use Rattle.cq_meaning.specs.Candidates.{concept_query};
 ghost use Rattle.cqapri_cli.specs.Answers.{AreAnswers, HasConflicts};
-ghost use Rattle.cqapri_cli.specs.Inputs.{AreAccepted, is_read_fault};
-ghost use Rattle.cqapri_cli.specs.Texts.{HaveTexts};
+ghost use Rattle.cqapri_cli.specs.Files.{AreWords};
+ghost use Rattle.cqapri_cli.specs.Inputs.{is_read_fault};
 ghost use Rattle.cqapri_cli.specs.Numbered.{AreNumbered};
+ghost use Rattle.cqapri_cli.specs.Paths.{names_in};
+ghost use Rattle.cqapri_cli.specs.ReportFile.{AreServed};
 ghost use Rattle.cqapri_cli.specs.Run.{NameFiles, Explains, WritesReport, Leaves, is_write_fault};
+ghost use Rattle.cqapri_cli.specs.Texts.{HaveTexts};
 
 use crate::Refusal;
+use crate::asked::asked_concept;
 use crate::conflicts::conflict_lists;
 use crate::input::{Input, read_input};
-use crate::paths::paths_of;
+use crate::paths::Paths;
 use crate::report_writer::write_report;
 use crate::standings::standing_table;
 use crate::verdicts::{Answer, answers};
 use cq_io::{Shelf, Sink};
 use cq_meaning::concept_name_verdicts;
 use cq_terms::{Ids, NoMemory};
+use query_reader::laws_of_the_grammar;
 use std::alloc::Global;
 
 /// Answers the query of the files that the words name by a report.
 pub(crate) fn classify<S: Shelf, O: Sink>(
     alloc: Global,
     words: &[String],
+    paths: Paths,
     files: &mut S,
     out: &mut O,
 ) -> Result<(), Refusal>
-    ensures accepted { OnOk result (NameFiles (S.holds files.old) (map string_bytes words.now) AreAccepted) }
+    requires words { AreWords (map string_bytes words.now) (record { names = names_in paths; report = None }) }
+
+    ensures accepted { OnOk result (NameFiles (S.holds files.old) (map string_bytes words.now) AreServed) }
     ensures answers { OnOk result (WritesReport (S.holds files.old) (map string_bytes words.now) (O.written out.old) (O.written out.new)) }
     ensures explained { IfErr result (Explains (S.holds files.old) (map string_bytes words.now)) }
     ensures left { IfErr result (Leaves (S.holds files.old) (map string_bytes words.now) (O.written out.old) (O.written out.new)) }
@@ -38,11 +46,14 @@ pub(crate) fn classify<S: Shelf, O: Sink>(
     ensures write_fault { TellsFault (O.faults out.old) (O.faults out.new) (is_write_fault result) }
     ensures same_files { S.holds files.new ≡ S.holds files.old }
 {
-    let Some(paths) = paths_of(words) else {
-        return Err(Refusal::Words);
-    };
+    axiom_reader::one_reading();
+    fact_tables::one_reading();
+    laws_of_the_grammar();
     let input = read_input(alloc, files, paths)?;
-    let decided = decide(alloc, &input)?;
+    let Some(concept) = asked_concept(&input) else {
+        return Err(Refusal::NotBuilt);
+    };
+    let decided = decide(alloc, &input, concept)?;
     let individuals = &input.vocab.inds;
     write_report(
         alloc,
@@ -65,10 +76,10 @@ pub(crate) struct Decided {
 }
 
 /// Decides the query of what the files say.
-fn decide(alloc: Global, input: &Input) -> Result<Decided, NoMemory>
-    requires numbered { AreNumbered input.now.kb input.now.concept input.now.vocab }
+fn decide(alloc: Global, input: &Input, concept: u32) -> Result<Decided, NoMemory>
+    requires numbered { AreNumbered input.now.kb concept input.now.vocab }
 
-    ensures exact { IfOk result (λ decided. AreAnswers input.now.kb (concept_query input.now.concept) decided.answers.items) }
+    ensures exact { IfOk result (λ decided. AreAnswers input.now.kb (concept_query concept) decided.answers.items) }
     ensures conflicts { IfOk result (λ decided. AllZip (HasConflicts input.now.kb) decided.answers.items decided.conflicts.items) }
     ensures texts { IfOk result (λ decided. HaveTexts input.now.vocab.inds decided.answers.items) }
     ensures few { IfOk result (λ decided. length decided.answers.items < 2 ^ 32) }
@@ -76,7 +87,7 @@ fn decide(alloc: Global, input: &Input) -> Result<Decided, NoMemory>
     concept_name_verdicts();
     let (kb, vocab) = (&input.kb, &input.vocab);
     let individuals = vocab.inds.len();
-    let standings = standing_table(alloc, kb, input.concept, vocab.concepts.len())?;
+    let standings = standing_table(alloc, kb, concept, vocab.concepts.len())?;
     let answers = answers(alloc, kb, &standings, individuals)?;
     let conflicts = conflict_lists(alloc, kb, &standings, &answers, individuals)?;
     Ok(Decided { answers, conflicts })

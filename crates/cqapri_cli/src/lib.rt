@@ -2,31 +2,37 @@
 #![tactic(auto)]
 
 mod apart;
+mod asked;
 mod classify_job;
+mod confirm_job;
 mod conflicts;
-mod facts_form;
-mod form_parts;
-mod form_refusal;
+mod fault;
+mod files;
 mod hierarchy;
 mod input;
+mod jobs;
+mod law;
 mod name_set;
 mod paths;
 mod pieces;
 mod places;
-mod query_form;
 mod refusal;
+mod report_file;
 mod report_lines;
+mod report_refusal;
 mod report_writer;
 mod standings;
 mod status;
 mod top_call;
 mod transposed;
+mod verdict_writer;
 mod verdicts;
 
-pub use facts_form::each_table_has_one_reading;
-pub use form_refusal::FormRefusal;
-pub use query_form::each_query_has_one_reading;
-pub use refusal::{File, Refusal};
+pub use fault::Fault;
+pub use files::{File, Quantity};
+pub use law::one_end;
+pub use refusal::Refusal;
+pub use report_refusal::ReportRefusal;
 pub use status::Status;
 pub use top_call::run;
 pub use verdicts::Answer;

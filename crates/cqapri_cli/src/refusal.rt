@@ -1,52 +1,18 @@
 //! Why a job ended without its whole answer, and the text that says so.
 
-ghost use Rattle.std.specs.Prelude.{◌≡◌, ◌++◌, ◌<◌, ◌^◌};
-ghost use Rattle.cqapri_cli.specs.Inputs.{limit_of};
-ghost use Rattle.cqapri_cli.specs.Refusals.{file_text, status_of, reason_of, Tells};
+ghost use Rattle.std.specs.Prelude.{◌≡◌, ◌++◌};
+ghost use Rattle.cqapri_cli.specs.Refusals.{number_text, reason_of, status_of, Tells};
 
-use crate::Status;
-use crate::form_refusal::FormRefusal;
-use crate::pieces::write_pieces;
+use crate::pieces::write_line;
+use crate::{Fault, File, Quantity, ReportRefusal, Status};
 use axiom_reader::AxiomRefusal;
-use cq_io::Sink;
+use cq_io::{Failed, Sink};
 use cq_terms::NoMemory;
+use fact_tables::FactRefusal;
+use itoa::Buffer;
+use query_reader::QueryRefusal;
+use refutation_confirmer::ConfirmFault;
 use report_text::LineFault;
-
-/// A file that the words name.
-#[derive(Clone, Copy, Debug, PartialEq, Eq)]
-pub enum File {
-    /// The axioms.
-    Ontology,
-    /// The facts.
-    Facts,
-    /// The query.
-    Query,
-}
-
-impl File {
-    /// The word for the file in texts.
-    fn word(self) -> &'static str
-        ensures exact { result.now ≡ file_text self }
-    {
-        match self {
-            File::Ontology => "ontology",
-            File::Facts => "facts",
-            File::Query => "query",
-        }
-    }
-
-    /// How many bytes the file may have.
-    pub(crate) fn limit(self) -> u64
-        ensures exact { result ≡ limit_of self }
-        ensures small { result < 2 ^ 32 }
-    {
-        match self {
-            File::Ontology => 16_777_216,
-            File::Facts => 67_108_864,
-            File::Query => 65_536,
-        }
-    }
-}
 
 /// Why a job ended without its whole answer.
 #[derive(Clone, Copy, Debug, PartialEq, Eq)]
@@ -55,10 +21,16 @@ pub enum Refusal {
     Words,
     /// The file isn't there.
     NotThere(File),
-    /// A file is longer than its limit, or isn't in form.
+    /// The text of a file has a fault.
+    Faulty(Fault),
+    /// A quantity is beyond its limit.
+    Limit(Quantity),
+    /// The files are accepted, and something in them isn't answered yet.
     NotBuilt,
     /// The file could not be read.
     ReadFault(File),
+    /// The report to confirm was not fetched.
+    Report(ReportRefusal),
     /// The output could not be written.
     WriteFault,
     /// Memory ran out.
@@ -84,22 +56,46 @@ impl From<AxiomRefusal> for Refusal {
 
     fn from(refused: AxiomRefusal) -> Refusal {
         match refused {
-            AxiomRefusal::NotBuilt => Refusal::NotBuilt,
+            AxiomRefusal::NotUtf8 { line } => Refusal::Faulty(Fault::LineNotUtf8 { line }),
+            AxiomRefusal::BadLine { line } => Refusal::Faulty(Fault::BadLine { line }),
+            AxiomRefusal::TooMany => Refusal::Limit(Quantity::Axioms),
             AxiomRefusal::NoMemory => Refusal::NoMemory,
         }
     }
 }
 
-impl From<FormRefusal> for Refusal {
+impl From<FactRefusal> for Refusal {
     ghost use Rattle.std.specs.Prelude.{◌≡◌};
-    ghost use Rattle.cqapri_cli.specs.Refusals.{refusal_of_form};
+    ghost use Rattle.cqapri_cli.specs.Refusals.{refusal_of_facts};
 
-    ghost from_gives = { λ refused refusal. refusal ≡ refusal_of_form refused };
+    ghost from_gives = { λ refused refusal. refusal ≡ refusal_of_facts refused };
 
-    fn from(refused: FormRefusal) -> Refusal {
+    fn from(refused: FactRefusal) -> Refusal {
         match refused {
-            FormRefusal::NotBuilt => Refusal::NotBuilt,
-            FormRefusal::NoMemory => Refusal::NoMemory,
+            FactRefusal::BadWidth { number } => Refusal::Faulty(Fault::BadWidth { number }),
+            FactRefusal::NotUtf8 { number } => Refusal::Faulty(Fault::RecordNotUtf8 { number }),
+            FactRefusal::EmptyField { number } => Refusal::Faulty(Fault::EmptyField { number }),
+            FactRefusal::TooMany => Refusal::Limit(Quantity::Records),
+            FactRefusal::NoMemory => Refusal::NoMemory,
+        }
+    }
+}
+
+impl From<QueryRefusal> for Refusal {
+    ghost use Rattle.std.specs.Prelude.{◌≡◌};
+    ghost use Rattle.cqapri_cli.specs.Refusals.{refusal_of_query};
+
+    ghost from_gives = { λ refused refusal. refusal ≡ refusal_of_query refused };
+
+    fn from(refused: QueryRefusal) -> Refusal {
+        match refused {
+            QueryRefusal::BadToken { at } => Refusal::Faulty(Fault::BadToken { at }),
+            QueryRefusal::TooManyAtoms => Refusal::Limit(Quantity::QueryAtoms),
+            QueryRefusal::RepeatedHead { place } => Refusal::Faulty(Fault::RepeatedHead { place }),
+            QueryRefusal::HeadNotInBody { place } => {
+                Refusal::Faulty(Fault::HeadNotInBody { place })
+            }
+            QueryRefusal::NoMemory => Refusal::NoMemory,
         }
     }
 }
@@ -118,6 +114,30 @@ impl From<LineFault> for Refusal {
     }
 }
 
+impl From<ConfirmFault> for Refusal {
+    ghost use Rattle.std.specs.Prelude.{◌≡◌};
+    ghost use Rattle.cqapri_cli.specs.declared.refusal.Refusal.TheVariants as refusal;
+
+    ghost from_gives = { λ _ e. e ≡ refusal.NoMemory };
+
+    fn from(fault: ConfirmFault) -> Refusal {
+        match fault {
+            ConfirmFault::NoMemory => Refusal::NoMemory,
+        }
+    }
+}
+
+impl From<Failed> for Refusal {
+    ghost use Rattle.std.specs.Prelude.{◌≡◌};
+    ghost use Rattle.cqapri_cli.specs.declared.refusal.Refusal.TheVariants as refusal;
+
+    ghost from_gives = { λ _ e. e ≡ refusal.WriteFault };
+
+    fn from(_error: Failed) -> Refusal {
+        Refusal::WriteFault
+    }
+}
+
 impl Refusal {
     /// The status that the refusal ends with.
     pub fn status(self) -> Status
@@ -125,32 +145,56 @@ impl Refusal {
     {
         match self {
             Refusal::Words => Status::Words,
-            Refusal::NotThere(_) | Refusal::NotBuilt => Status::Refused,
+            Refusal::NotThere(_) | Refusal::Faulty(_) | Refusal::NotBuilt => Status::Refused,
+            Refusal::Limit(_) => Status::Limit,
             Refusal::ReadFault(_) => Status::ReadFault,
+            Refusal::Report(why) => why.status(),
             Refusal::WriteFault => Status::WriteFault,
             Refusal::NoMemory => Status::NoMemory,
         }
     }
 
-    /// What the refusal says, as a word for a file and the rest.
-    fn reason(self) -> (&'static str, &'static str)
-        ensures exact { result.0.now ++ result.1.now ≡ reason_of self }
+    /// What the refusal says: what stands before its number, the number, where it has one, and what stands after it.
+    fn reason(self) -> (&'static str, Option<u32>, &'static str)
+        ensures exact { result.0.now ++ (number_text result.1 ++ result.2.now) ≡ reason_of self }
     {
         match self {
-            Refusal::Words => ("", "words"),
-            Refusal::NotThere(file) => (file.word(), ": not there"),
-            Refusal::NotBuilt => ("", "not built"),
-            Refusal::ReadFault(file) => (file.word(), ": read fault"),
-            Refusal::WriteFault => ("", "write fault"),
-            Refusal::NoMemory => ("", "memory"),
+            Refusal::Words => ("words", None, ""),
+            Refusal::NotThere(file) => (file.word(), None, ": not there"),
+            Refusal::Faulty(fault) => {
+                let (before, number, after) = fault.parts();
+                (before, Some(number), after)
+            }
+            Refusal::Limit(quantity) => ("limit: ", None, quantity.words()),
+            Refusal::NotBuilt => ("not built", None, ""),
+            Refusal::ReadFault(file) => (file.word(), None, ": read fault"),
+            Refusal::Report(why) => {
+                let (before, after) = why.parts();
+                (before, None, after)
+            }
+            Refusal::WriteFault => ("write fault", None, ""),
+            Refusal::NoMemory => ("memory", None, ""),
         }
     }
 
-    /// Writes the refusal's text in pieces, and stops at a piece that fails. It takes no memory.
+    /// Writes the refusal's text in pieces, and stops at a piece that fails. It takes no memory: a number is printed into a
+    /// fixed array.
     pub(crate) fn tell<E: Sink>(self, err: &mut E)
         ensures told { Tells self (E.written err.old) (E.written err.new) (E.faults err.old) (E.faults err.new) }
     {
-        let (file, rest) = self.reason();
-        let _ = write_pieces(err, &[b"cqapri: ", file.as_bytes(), rest.as_bytes(), b"\n"]);
+        let (before, number, after) = self.reason();
+        let mut buffer = Buffer::new();
+        let digits = digits_of(number, &mut buffer);
+        let _ = write_line(err, before, digits, after);
+    }
+}
+
+/// The digits of the number, or nothing where there is none.
+fn digits_of(number: Option<u32>, buffer: &mut Buffer) -> &str
+    ensures exact { result.now ≡ number_text number }
+{
+    match number {
+        Some(number) => buffer.format(number),
+        None => "",
     }
 }

@@ -1,12 +1,12 @@
 -- How far the reader of a body has come.
-use Rattle.std.proofs.Common.{◌≡◌, ◌≢◌, ℕ, ◌+◌, ◌<◌, ◌≤◌, ◌^◌, List, [], ◌∷◌, ◌++◌, length, refl, sym, ap, ◌∙◌, arith, append_assoc, append-nil, subst}
+use Rattle.std.proofs.Common.{◌≡◌, ◌≢◌, ℕ, ◌+◌, ◌<◌, ◌≤◌, List, [], ◌∷◌, ◌++◌, length, refl, sym, ap, ◌∙◌, arith, append_assoc, append-nil, subst}
 use Rattle.std.specs.List.{flat_map}
 use Rattle.cq_terms.specs.declared.query.QAtom.{QAtom}
 use Rattle.query_reader.specs.declared.place.Place.TheVariants as at
 use Rattle.query_reader.specs.Faults.{FaultFrom}
 use Rattle.query_reader.specs.Grammar.{NamedTerm, variable_term, constant_term, NamedAtom, concept_atom, role_atom, atom_tokens, body_tokens, term_token}
-use Rattle.query_reader.specs.Numbering.{Numbers, with_atom, with_atoms, AreAtomsOf, IsAtomOf, KeepsNumbers, AddsAtMost, IsBelow}
-use Rattle.query_reader.specs.Steps.{IsBodyRead, HasSpace}
+use Rattle.query_reader.specs.Numbering.{Numbers, with_atom, with_atoms, AreAtomsOf, IsAtomOf, KeepsNumbers, AddsAtMost}
+use Rattle.query_reader.specs.Steps.{IsBodyRead}
 use Rattle.query_reader.specs.Tokens.{Token, name, opening, closing, comma, Reads, Stands, IsParted, after_gap}
 use Rattle.query_reader.proofs.FaultLemmas.{fault_later, first_may, second_may}
 use Rattle.query_reader.proofs.NumberLemmas.{KeepsNumbers-refl, KeepsNumbers-trans, AreAtomsOf-kept, AreAtomsOf-push}

@@ -1,12 +1,12 @@
 -- The texts of a list of names are distinct.
-use Rattle.std.proofs.Common.{◌≡◌, ◌⊎◌, inl, inr, ℕ, zero, suc, ◌+◌, ◌<◌, ◌≤◌, Bool, true, false, cond, List, [], ◌∷◌, ◌++◌, length, slice_get, Option, Some, None, Contains, refl, sym, ap, ◌∙◌, arith, subst}
+use Rattle.std.proofs.Common.{◌≡◌, ◌⊎◌, inl, inr, ℕ, zero, suc, Bool, true, false, cond, List, [], ◌∷◌, ◌++◌, length, slice_get, Some, Contains, refl, sym, ap, ◌∙◌, subst}
 use Rattle.std.specs.List.{list_any}
 use Rattle.std.specs.Str.{bytes_eq}
 use Rattle.cq_terms.specs.Names.{with_text}
 use Rattle.cq_terms.specs.declared.names.Vocab.{Vocab}
 use Rattle.cq_terms.proofs.NamesLemmas.{not_there, there_at}
 use Rattle.query_reader.specs.Grammar.{NamedTerm, variable_term, constant_term, NamedAtom, concept_atom, role_atom, NamedQuery}
-use Rattle.query_reader.specs.Numbering.{Numbers, with_texts, with_term, with_atom, with_atoms, with_query}
+use Rattle.query_reader.specs.Numbering.{Numbers, with_texts, with_term, with_atoms, with_query}
 
 -- no text stands at two places
 abbrev pub Apart : List (List ℕ) → Type 0

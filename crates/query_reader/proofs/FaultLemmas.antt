@@ -1,11 +1,10 @@
 -- Faults behind tokens.
-use Rattle.std.proofs.Common.{◌≡◌, ℕ, Bool, true, false, List, [], ◌∷◌, ◌++◌, IsTrue, Result, Ok, Err, IfErr, IsErrAnd, refl, sym, subst}
+use Rattle.std.proofs.Common.{◌≡◌, ℕ, false, List, [], ◌∷◌, IsTrue, Result, Ok, Err, IfErr, IsErrAnd, refl, sym, subst}
 use Rattle.query_reader.specs.declared.place.Place.{Place}
 use Rattle.query_reader.specs.declared.place.Place.TheVariants as at
-use Rattle.query_reader.specs.Faults.{may_stand, place_behind, IsStuck, FaultBehind, FaultFrom}
-use Rattle.query_reader.specs.Grammar.{NamedTerm, variable_term, constant_term, term_token, atom_tokens}
-use Rattle.query_reader.specs.Parts.{IsTermPlace, IsHeadPlace, atom_of, second_tokens}
-use Rattle.query_reader.specs.Tokens.{Token, variable, constant, name, arrow, opening, closing, comma, Stands, Reads, IsParted, after_gap, begins}
+use Rattle.query_reader.specs.Faults.{may_stand, place_behind, IsStuck, FaultFrom}
+use Rattle.query_reader.specs.Grammar.{NamedTerm, variable_term, constant_term, term_token}
+use Rattle.query_reader.specs.Tokens.{Token, comma, Stands, after_gap, begins}
 
 -- a mark stands whatever follows it
 begins_none : (bytes : List ℕ) → begins (λ byte. false) bytes ≡ false

@@ -1,5 +1,5 @@
 -- How far the reader of a head has come.
-use Rattle.std.proofs.Common.{◌≡◌, ◌⊎◌, inl, inr, ℕ, ◌+◌, ◌<◌, ◌≤◌, Bool, true, false, cond, List, [], ◌∷◌, ◌++◌, length, map, slice_get, Option, Some, None, Contains, refl, sym, ap, ◌∙◌, arith, append_assoc, append-nil, length-append, subst, zero, suc}
+use Rattle.std.proofs.Common.{◌≡◌, ◌⊎◌, inl, inr, ℕ, ◌+◌, ◌≤◌, Bool, true, false, cond, List, [], ◌∷◌, ◌++◌, length, map, slice_get, Option, Some, None, Contains, refl, sym, ap, ◌∙◌, arith, append_assoc, length-append, subst, zero, suc}
 use Rattle.std.specs.List.{list_any}
 use Rattle.std.specs.Str.{bytes_eq}
 use Rattle.std.proofs.lemmas.List.{map-append}
@@ -9,19 +9,26 @@ use Rattle.std.proofs.lemmas.Slice.Eq.{bytes_eq-Decides}
 use Rattle.cq_terms.specs.Names.{with_text}
 use Rattle.cq_terms.specs.declared.query.Term.{Term}
 use Rattle.cq_terms.specs.declared.query.Term.TheVariants as term
-use Rattle.axiom_reader.specs.Reading.{IsPrefix}
-use Rattle.axiom_reader.proofs.TextLemmas.{IsPrefix-with_text, slice_get-prefix, length-with_text}
+use Rattle.axiom_reader.specs.Numbering.{IsPrefix}
+use Rattle.axiom_reader.proofs.TextLemmas.{IsPrefix-with_text, slice_get-prefix}
 use Rattle.query_reader.specs.declared.head.Head.{Head}
 use Rattle.query_reader.specs.declared.place.Place.{Place}
 use Rattle.query_reader.specs.declared.place.Place.TheVariants as at
 use Rattle.query_reader.specs.Faults.{FaultFrom, head_place}
 use Rattle.query_reader.specs.Numbering.{with_texts, AreHeadOf}
 use Rattle.query_reader.specs.Parts.{IsHeadPlace}
-use Rattle.query_reader.specs.Queries.{HasNoRepeats, IsFirstRepeat}
 use Rattle.query_reader.specs.Steps.{AddsRepeat, IsRepeatOf, IsHeadRead}
 use Rattle.query_reader.specs.Tokens.{Token, variable, constant, name, arrow, opening, closing, comma, Reads, Stands, IsParted, after_gap, begins, is_blank}
 use Rattle.query_reader.proofs.FaultLemmas.{fault_later}
 use Rattle.query_reader.proofs.TextLemmas.{stands_shorter}
+
+-- a put adds one text at most
+length-with_text : (texts : List (List ℕ)) (text : List ℕ) → length (with_text texts text) ≤ length texts + 1
+length-with_text texts text = by (list_any (bytes_eq text) texts)
+  where
+    by : (b : Bool) → length (cond b texts (texts ++ text ∷ [])) ≤ length texts + 1
+    by true = omega arith
+    by false = omega (arith, length-append texts (text ∷ []))
 
 -- no variable follows where another ends without a blank
 abbrev pub MayFollow : Place → List Token → Type 0

@@ -1,11 +1,11 @@
 -- A text of the grammar has one reading and no fault.
-use Rattle.std.proofs.Common.{◌≡◌, ◌≢◌, ℕ, ◌+◌, ◌<◌, Bool, true, false, List, [], ◌∷◌, ◌++◌, length, map, IsTrue, refl, sym, ap, ◌∙◌, arith, subst, length-append}
+use Rattle.std.proofs.Common.{◌≡◌, ◌≢◌, ℕ, Bool, true, false, List, [], ◌∷◌, ◌++◌, length, map, IsTrue, refl, sym, ap, ◌∙◌, arith, subst, length-append}
 use Rattle.std.specs.List.{flat_map}
 use Rattle.query_reader.specs.declared.place.Place.{Place}
 use Rattle.query_reader.specs.declared.place.Place.TheVariants as at
-use Rattle.query_reader.specs.Faults.{may_stand, may_end, place_behind, head_place, FaultBehind, IsFault, FaultsAreUnique}
+use Rattle.query_reader.specs.Faults.{may_stand, may_end, place_behind, head_place, FaultBehind, FaultsAreUnique}
 use Rattle.query_reader.specs.Grammar.{NamedTerm, variable_term, constant_term, NamedAtom, concept_atom, role_atom, NamedQuery, term_token, atom_tokens, body_tokens, query_tokens, IsText, EachTextHasOneReading}
-use Rattle.query_reader.specs.Tokens.{Token, variable, constant, name, arrow, opening, closing, comma, Stands, Reads, IsParted, after_gap, begins, is_blank, token_text}
+use Rattle.query_reader.specs.Tokens.{Token, variable, arrow, comma, Stands, Reads, IsParted, after_gap, begins, is_blank, token_text}
 use Rattle.query_reader.proofs.FaultLemmas.{first_may, second_may}
 use Rattle.query_reader.proofs.OnceLemmas.{token_once, fault_once}
 use Rattle.query_reader.proofs.TextLemmas.{token_some}

@@ -1,15 +1,14 @@
 -- Lists of names that grow at their ends, and what is numbered by them.
-use Rattle.std.proofs.Common.{◌≡◌, ℕ, List, [], ◌∷◌, ◌++◌, slice_get, Option, Some, None, option_map, refl, sym, subst}
+use Rattle.std.proofs.Common.{◌≡◌, ℕ, List, [], ◌∷◌, ◌++◌, slice_get, Some, sym, subst}
 use Rattle.cq_terms.specs.Names.{with_text}
 use Rattle.cq_terms.specs.declared.query.Term.{Term}
 use Rattle.cq_terms.specs.declared.query.Term.TheVariants as term
 use Rattle.cq_terms.specs.declared.query.QAtom.{QAtom}
 use Rattle.cq_terms.specs.declared.query.QAtom.TheVariants as atom
-use Rattle.axiom_reader.specs.Reading.{IsPrefix}
+use Rattle.axiom_reader.specs.Numbering.{IsPrefix}
 use Rattle.axiom_reader.proofs.TextLemmas.{IsPrefix-refl, IsPrefix-trans, IsPrefix-with_text, slice_get-prefix}
 use Rattle.query_reader.specs.Grammar.{NamedTerm, variable_term, constant_term, NamedAtom, concept_atom, role_atom}
 use Rattle.query_reader.specs.Numbering.{Numbers, KeepsNumbers, IsTermOf, IsAtomOf, AreAtomsOf}
-use Rattle.query_reader.specs.Parts.{atom_of}
 
 pub KeepsNumbers-refl : (numbers : Numbers) → KeepsNumbers numbers numbers
 KeepsNumbers-refl numbers = record {

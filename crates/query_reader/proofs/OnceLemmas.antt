@@ -1,15 +1,15 @@
 -- One token is at the front of a text, and one fault.
-use Rattle.std.proofs.Common.{◌≡◌, ◌⊎◌, inl, inr, ℕ, ◌+◌, ◌<◌, Bool, true, false, cond, ◌&&◌, ◌==◌, List, [], ◌∷◌, ◌++◌, length, if◌then◌else◌, refl, sym, ap, ◌∙◌, arith, subst, append_assoc}
+use Rattle.std.proofs.Common.{◌≡◌, inl, inr, ℕ, true, ◌&&◌, ◌==◌, List, [], ◌∷◌, ◌++◌, if◌then◌else◌, refl, sym, ap, ◌∙◌, arith, subst}
 use Rattle.std.specs.List.{list_all}
 use Rattle.std.specs.Str.{IsValidUpTo}
 use Rattle.std.proofs.lemmas.Bool.Decides.{nat_tests}
 use Rattle.std.proofs.lemmas.Str.{utf8_valid_len-IsValidUpTo}
-use Rattle.axiom_reader.specs.Name.{IsName, is_name_text, is_first, is_later, is_keyword}
-use Rattle.axiom_reader.proofs.NameLemmas.{all_later, empty_is_no_name, is_name_text-cons}
+use Rattle.axiom_reader.specs.Name.{IsName, is_name_text, is_first, is_later}
+use Rattle.axiom_reader.proofs.NameLemmas.{all_later, empty_is_no_name}
 use Rattle.query_reader.specs.declared.place.Place.{Place}
-use Rattle.query_reader.specs.Faults.{IsStuck, IsLeft, EndsInside, between, in_variable, in_arrow, in_constant, BreaksInside, FaultBehind, place_behind}
+use Rattle.query_reader.specs.Faults.{IsLeft, EndsInside, between, in_variable, in_arrow, in_constant, BreaksInside, FaultBehind, place_behind}
 use Rattle.query_reader.specs.Parts.{halved}
-use Rattle.query_reader.specs.Tokens.{Token, variable, constant, name, arrow, opening, closing, comma, Stands, IsToken, after_gap, doubled, is_letter}
+use Rattle.query_reader.specs.Tokens.{Token, variable, constant, name, arrow, opening, closing, comma, Stands, after_gap, doubled, is_letter}
 use Rattle.query_reader.proofs.InsideLemmas.{stands_inside, has_once, halved-doubled, no_break, some_bytes, other_byte}
 use Rattle.query_reader.proofs.RunLemmas.{both, runs_once}
 

@@ -1,5 +1,5 @@
 -- A query by numbers is the query over names.
-use Rattle.std.proofs.Common.{◌≡◌, ◌≢◌, ◌⊎◌, inl, inr, ℕ, zero, suc, ◌+◌, ◌<◌, ◌≤◌, List, [], ◌∷◌, ◌++◌, length, slice_get, Option, Some, None, All, Any, refl, sym, ap, ◌∙◌, arith, subst}
+use Rattle.std.proofs.Common.{◌≡◌, ◌≢◌, ◌⊎◌, inl, inr, ℕ, zero, suc, ◌<◌, ◌≤◌, List, [], ◌∷◌, ◌++◌, length, slice_get, Some, All, Any, refl, sym, ap, ◌∙◌, arith, subst}
 use Rattle.std.proofs.lemmas.List.Elements.{All-nil, All-cons, All-head, All-tail}
 use Rattle.cq_terms.specs.Query.{IsMeant, StandsIn, Query}
 use Rattle.cq_terms.specs.declared.names.Vocab.{Vocab}
@@ -14,10 +14,10 @@ use Rattle.query_reader.specs.declared.refusal.Halt.{Halt}
 use Rattle.query_reader.specs.declared.refusal.Halt.TheVariants as halt
 use Rattle.query_reader.specs.declared.refusal.QueryRefusal.{QueryRefusal}
 use Rattle.query_reader.specs.declared.refusal.QueryRefusal.TheVariants as refusal
-use Rattle.query_reader.specs.Grammar.{NamedTerm, variable_term, constant_term, NamedAtom, concept_atom, role_atom, NamedQuery, IsText}
+use Rattle.query_reader.specs.Grammar.{NamedTerm, variable_term, constant_term, NamedAtom, concept_atom, role_atom, NamedQuery}
 use Rattle.query_reader.specs.Numbering.{Numbers, numbers_of, with_texts, with_atoms, with_query, IsTermOf, IsAtomOf, AreHeadOf, AreAtomsOf, KeepsNumbers}
-use Rattle.query_reader.specs.Queries.{HasVariable, IsInBody, HasNoRepeats, IsFirstRepeat, IsFirstOutside, IsShortText, IsQueryOf, Explains}
-use Rattle.query_reader.specs.Steps.{IsHeadRead, IsBodyRead, IsDraft, IsRepeatOf, IsFirstUnmeant, IsRefused, IsAccepted, IsHalt, IsWithin, IsRefusalOf}
+use Rattle.query_reader.specs.Queries.{HasVariable, IsInBody, IsFirstOutside, IsQueryOf, Explains}
+use Rattle.query_reader.specs.Steps.{IsHeadRead, IsBodyRead, IsDraft, IsRepeatOf, IsRefused, IsAccepted, IsHalt, IsWithin, IsRefusalOf}
 use Rattle.query_reader.proofs.DistinctLemmas.{Apart, Apart-query}
 use Rattle.query_reader.proofs.HeadLemmas.{AreHeadOf-kept}
 use Rattle.query_reader.proofs.TextLemmas.{fault_within}

@@ -1,8 +1,8 @@
 -- Texts get shorter as tokens are read.
-use Rattle.std.proofs.Common.{◌≡◌, ℕ, ◌+◌, ◌<◌, ◌≤◌, ◌-◌, Bool, true, false, cond, List, [], ◌∷◌, ◌++◌, length, refl, sym, ap, ◌∙◌, arith, length-append, suc, Result, IfErr, inl, inr, ◌⊎◌}
+use Rattle.std.proofs.Common.{ℕ, ◌+◌, ◌<◌, ◌≤◌, Bool, true, false, cond, List, [], ◌∷◌, length, refl, ap, ◌∙◌, arith, length-append, suc, inl, inr}
 use Rattle.axiom_reader.proofs.NameLemmas.{empty_is_no_name}
 use Rattle.query_reader.specs.declared.place.Place.{Place}
-use Rattle.query_reader.specs.Faults.{FaultFrom, FaultBehind, IsStuck, IsLeft, EndsInside, BreaksInside, place_behind}
+use Rattle.query_reader.specs.Faults.{FaultFrom, FaultBehind, IsLeft, place_behind}
 use Rattle.query_reader.specs.Tokens.{Token, variable, constant, name, arrow, opening, closing, comma, IsToken, Stands, Reads, token_text, after_gap, is_blank}
 
 -- a token has a byte

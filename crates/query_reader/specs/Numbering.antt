@@ -6,7 +6,7 @@ use Rattle.cq_terms.specs.declared.query.Term.{Term}
 use Rattle.cq_terms.specs.declared.query.Term.TheVariants as term
 use Rattle.cq_terms.specs.declared.query.QAtom.{QAtom}
 use Rattle.cq_terms.specs.declared.query.QAtom.TheVariants as atom
-use Rattle.axiom_reader.specs.Reading.{IsPrefix}
+use Rattle.axiom_reader.specs.Numbering.{IsPrefix}
 use Rattle.query_reader.specs.Grammar.{NamedTerm, variable_term, constant_term, NamedAtom, concept_atom, role_atom, NamedQuery}
 
 -- the lists of names, in which the number of each is its place

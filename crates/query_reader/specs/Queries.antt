@@ -1,13 +1,13 @@
 -- What a reader of a query answers.
-use Rattle.std.specs.Prelude.{◌≡◌, ℕ, ◌+◌, ◌<◌, ◌≤◌, ◌^◌, ◌==◌, ◌&&◌, ◌⊎◌, List, [], ◌∷◌, ◌++◌, length, All, Any, Contains, if◌then◌else◌}
+use Rattle.std.specs.Prelude.{◌≡◌, ℕ, ◌+◌, ◌<◌, ◌≤◌, ◌==◌, ◌&&◌, ◌⊎◌, List, [], ◌∷◌, ◌++◌, length, All, Any, Contains, if◌then◌else◌}
 use Rattle.cq_terms.specs.Query.{Query}
 use Rattle.cq_terms.specs.declared.names.Vocab.{Vocab}
-use Rattle.axiom_reader.specs.Reading.{IsPrefix}
+use Rattle.axiom_reader.specs.Numbering.{IsPrefix}
 use Rattle.query_reader.specs.declared.refusal.QueryRefusal.{QueryRefusal}
 use Rattle.query_reader.specs.declared.refusal.QueryRefusal.TheVariants as refusal
 use Rattle.query_reader.specs.Faults.{IsFault}
-use Rattle.query_reader.specs.Grammar.{NamedTerm, variable_term, NamedAtom, concept_atom, role_atom, NamedQuery, IsText}
-use Rattle.query_reader.specs.Numbering.{Numbers, with_query, AreHeadOf, AreAtomsOf}
+use Rattle.query_reader.specs.Grammar.{variable_term, NamedAtom, concept_atom, role_atom, NamedQuery, IsText}
+use Rattle.query_reader.specs.Numbering.{with_query, AreHeadOf, AreAtomsOf}
 
 -- the bytes after every byte order mark (EF BB BF) at their beginning
 abbrev pub after_marks : List ℕ → List ℕ

@@ -1,6 +1,5 @@
 -- What the reader knows of the head, of the body, and of a whole text before its last checks.
-use Rattle.std.specs.Prelude.{◌≡◌, ◌≢◌, ℕ, ◌+◌, ◌<◌, ◌≤◌, ◌^◌, ◌⊎◌, List, [], ◌∷◌, ◌++◌, length, map, All, Contains, Option, Some, None}
-use Rattle.std.specs.Bool.{⊤}
+use Rattle.std.specs.Prelude.{◌≡◌, ◌≢◌, ℕ, ◌+◌, ◌<◌, ◌≤◌, ◌^◌, List, [], ◌∷◌, ◌++◌, length, map, All, Contains, Option, Some, None}
 use Rattle.cq_terms.specs.Query.{IsMeant}
 use Rattle.cq_terms.specs.declared.names.Vocab.{Vocab}
 use Rattle.cq_terms.specs.declared.query.QAtom.{QAtom}

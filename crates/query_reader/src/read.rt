@@ -1,7 +1,7 @@
 //! The reader of query texts.
 
 ghost use Rattle.std.specs.Prelude.{◌≡◌, ◌<◌, ◌^◌, length, IfOk, IfErr};
-ghost use Rattle.axiom_reader.specs.Reading.{HasRoom};
+ghost use Rattle.axiom_reader.specs.Numbering.{HasRoom};
 ghost use Rattle.query_reader.specs.declared.place.Place.TheVariants as at;
 ghost use Rattle.query_reader.specs.Queries.{Explains, GrowsBy, IsQueryOf, KeepsNames, after_marks};
 ghost use Rattle.query_reader.specs.Steps.{IsDraft, IsHalt, IsRefusalOf, IsWithin};

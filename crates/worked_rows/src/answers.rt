@@ -46,6 +46,26 @@ fn each_row_prints_its_report(rt: HostRuntime) -> Result<(), Fail> {
 {"answers":0,"ar":0,"brave":0,"iar":0,"k":"end","undecided":0}
 "#,
         ),
+        (
+            "",
+            "A,\"Lee, Ann\"\r\nB,bob\r\nA,\"Lee, Ann\"\r\n",
+            "?x <- A(?x)",
+            r#"{"axioms":0,"budget":0,"facts":2,"k":"head","keep":0,"repairs":"all","version":0}
+{"dropped":[],"k":"core","kept":[0],"n":0}
+{"ar":"undecided","brave":"yes","cores":[0],"iar":"undecided","k":"answer","names":["Lee, Ann"],"tuple":[0]}
+{"answers":1,"ar":0,"brave":1,"iar":0,"k":"end","undecided":1}
+"#,
+        ),
+        (
+            "\u{FEFF}# staff\n\n\tA  < B \r\nA < B",
+            "\u{FEFF}A,a\n",
+            "\u{FEFF}\t?v <-\n B( ?v )\n",
+            r#"{"axioms":2,"budget":0,"facts":1,"k":"head","keep":0,"repairs":"all","version":0}
+{"dropped":[],"k":"core","kept":[0],"n":0}
+{"ar":"undecided","brave":"yes","cores":[0],"iar":"undecided","k":"answer","names":["a"],"tuple":[0]}
+{"answers":1,"ar":0,"brave":1,"iar":0,"k":"end","undecided":1}
+"#,
+        ),
     ] {
         let alloc = rt.alloc();
         let mut files = shelf(alloc, ontology, facts, query)?;

@@ -4,7 +4,7 @@ use cq_io::{MemShelf, MemSink};
 use cq_terms::NoMemory;
 use std::alloc::{AllocError, Global};
 
-/// The words that name the files of a row.
+/// The words that name the files of a row to answer.
 pub(crate) const CLASSIFY: [&str; 7] = [
     "classify",
     "--ontology",
@@ -13,6 +13,19 @@ pub(crate) const CLASSIFY: [&str; 7] = [
     "f",
     "--query",
     "q",
+];
+
+/// The words that name the files of a row and a report to confirm.
+pub(crate) const CONFIRM: [&str; 9] = [
+    "confirm",
+    "--ontology",
+    "o",
+    "--facts",
+    "f",
+    "--query",
+    "q",
+    "--report",
+    "r",
 ];
 
 /// The words as `run` takes them.

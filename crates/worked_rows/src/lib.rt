@@ -4,6 +4,10 @@
 #[cfg(test)]
 mod answers;
 #[cfg(test)]
+mod confirmations;
+#[cfg(test)]
 mod desk;
+#[cfg(test)]
+mod pairs;
 #[cfg(test)]
 mod refusals;

@@ -1,8 +1,9 @@
 //! Rows that are refused.
 
 use crate::desk::{CLASSIFY, shelf, sink, words};
+use cq_io::MemShelf;
 use cqapri_cli::{Status, run};
-use std::alloc::Global;
+use std::alloc::{AllocError, Global};
 use std::test::Fail;
 
 const ONTOLOGY: &str = "A < B\n";
@@ -12,26 +13,298 @@ const FACTS: &str = "A,a\nA,b\n";
 const QUERY: &str = "?x <- B(?x)\n";
 
 #[test]
-fn files_out_of_form_are_refused(rt: HostRuntime) -> Result<(), Fail> {
-    for (ontology, facts, query) in [
-        ("A  < B\n", FACTS, QUERY),
-        ("A < B", FACTS, QUERY),
-        ("A < some B\n", FACTS, QUERY),
-        (ONTOLOGY, "P,a,b\n", QUERY),
-        (ONTOLOGY, "A,a\nA\n", QUERY),
-        (ONTOLOGY, FACTS, "?x <- B(?y)\n"),
-        (ONTOLOGY, FACTS, "?x <- B(?x)\n\n"),
+fn the_first_fault_is_told(rt: HostRuntime) -> Result<(), Fail> {
+    for (ontology, facts, query, status, text) in [
+        (
+            "A < B\nA < < B\nsome < B\n",
+            FACTS,
+            QUERY,
+            Status::Refused,
+            "cqapri: ontology: line 2: bad line\n",
+        ),
+        (
+            ONTOLOGY,
+            "A,a\nA\nA,\n",
+            QUERY,
+            Status::Refused,
+            "cqapri: facts: record 2: bad width\n",
+        ),
+        (
+            ONTOLOGY,
+            "A,a\nA,\n",
+            QUERY,
+            Status::Refused,
+            "cqapri: facts: record 2: empty field\n",
+        ),
+        (
+            ONTOLOGY,
+            FACTS,
+            "?x <- A(?x\n",
+            Status::Refused,
+            "cqapri: query: byte 11: bad token\n",
+        ),
+        (
+            ONTOLOGY,
+            FACTS,
+            "?x ?x <- A(?x)",
+            Status::Refused,
+            "cqapri: query: head place 1: repeated\n",
+        ),
+        (
+            ONTOLOGY,
+            FACTS,
+            "?y <- A(?x)",
+            Status::Refused,
+            "cqapri: query: head place 0: not in body\n",
+        ),
+        (
+            "A <B\n",
+            FACTS,
+            QUERY,
+            Status::Refused,
+            "cqapri: ontology: line 1: bad line\n",
+        ),
+        (
+            "A < B # c\n",
+            FACTS,
+            QUERY,
+            Status::Refused,
+            "cqapri: ontology: line 1: bad line\n",
+        ),
+        (
+            "\n# c\nA < some\n",
+            FACTS,
+            QUERY,
+            Status::Refused,
+            "cqapri: ontology: line 3: bad line\n",
+        ),
+        (
+            "not < A\n",
+            FACTS,
+            QUERY,
+            Status::Refused,
+            "cqapri: ontology: line 1: bad line\n",
+        ),
+        (
+            "A < not role\n",
+            FACTS,
+            QUERY,
+            Status::Refused,
+            "cqapri: ontology: line 1: bad line\n",
+        ),
+        (
+            "role inv inv < P\n",
+            FACTS,
+            QUERY,
+            Status::Refused,
+            "cqapri: ontology: line 1: bad line\n",
+        ),
+        (
+            "func P\n",
+            FACTS,
+            QUERY,
+            Status::Refused,
+            "cqapri: ontology: line 1: bad line\n",
+        ),
+        (
+            ONTOLOGY,
+            "A,\"a\nb\"\nB\n",
+            QUERY,
+            Status::Refused,
+            "cqapri: facts: record 2: bad width\n",
+        ),
+        (
+            ONTOLOGY,
+            "A,a,b,c\n",
+            QUERY,
+            Status::Refused,
+            "cqapri: facts: record 1: bad width\n",
+        ),
+        (
+            ONTOLOGY,
+            FACTS,
+            "?x <",
+            Status::Refused,
+            "cqapri: query: byte 4: bad token\n",
+        ),
+        (
+            ONTOLOGY,
+            FACTS,
+            "?x < A(?x)",
+            Status::Refused,
+            "cqapri: query: byte 3: bad token\n",
+        ),
+        (
+            ONTOLOGY,
+            FACTS,
+            "<- some(?x)",
+            Status::Refused,
+            "cqapri: query: byte 3: bad token\n",
+        ),
+        (
+            ONTOLOGY,
+            FACTS,
+            "<- A('a",
+            Status::Refused,
+            "cqapri: query: byte 7: bad token\n",
+        ),
+        (
+            ONTOLOGY,
+            FACTS,
+            "<- A(?x) B",
+            Status::Refused,
+            "cqapri: query: byte 9: bad token\n",
+        ),
+        (
+            ONTOLOGY,
+            FACTS,
+            " \r\n",
+            Status::Refused,
+            "cqapri: query: byte 3: bad token\n",
+        ),
+        (
+            ONTOLOGY,
+            FACTS,
+            "<- A(?x),A(?x),A(?x),A(?x),A(?x),A(?x),A(?x),A(?x),A(?x),A(?x),A(?x),A(?x),A(?x)",
+            Status::Limit,
+            "cqapri: limit: query atoms\n",
+        ),
     ] {
-        let alloc = rt.alloc();
-        let mut files = shelf(alloc, ontology, facts, query)?;
-        let mut out = sink(alloc, None)?;
-        let mut err = sink(alloc, None)?;
-        let words = words(alloc, &CLASSIFY)?;
-        let status = run(alloc, &words, &mut files, &mut out, &mut err);
-        assert_eq!(rt; status, Status::Refused, "of {ontology} {facts} {query}");
-        assert!(rt; err.written() == b"cqapri: not built\n".as_slice());
-        assert!(rt; out.written().is_empty());
+        let is_told = is_told(rt.alloc(), [ontology, facts, query], status, text)?;
+        assert!(rt; is_told, "of {ontology} {facts} {query}");
     }
+    Ok(())
+}
+
+#[test]
+fn what_is_not_answered_yet_is_not_built(rt: HostRuntime) -> Result<(), Fail> {
+    for (ontology, facts, query) in [
+        ("A < some P\n", FACTS, QUERY),
+        (ONTOLOGY, "P,a,b\n", QUERY),
+        (ONTOLOGY, FACTS, "?x <- A(?x), B(?x)"),
+        (ONTOLOGY, FACTS, "<- A('a')"),
+    ] {
+        let text = "cqapri: not built\n";
+        let is_told = is_told(rt.alloc(), [ontology, facts, query], Status::Refused, text)?;
+        assert!(rt; is_told, "of {ontology} {facts} {query}");
+    }
+    Ok(())
+}
+
+#[test]
+fn bytes_that_are_no_text_are_told(rt: HostRuntime) -> Result<(), Fail> {
+    for (name, bytes, text) in [
+        (
+            "o",
+            b"A < B\nA < \xFF\n".as_slice(),
+            "cqapri: ontology: line 2: not UTF-8\n",
+        ),
+        (
+            "f",
+            b"A,a\nA,\xFF\n".as_slice(),
+            "cqapri: facts: record 2: not UTF-8\n",
+        ),
+        (
+            "f",
+            b"\xFF\n".as_slice(),
+            "cqapri: facts: record 1: bad width\n",
+        ),
+        (
+            "q",
+            b"<- A(\xFF)".as_slice(),
+            "cqapri: query: byte 5: bad token\n",
+        ),
+    ] {
+        let mut files = shelf(rt.alloc(), ONTOLOGY, FACTS, QUERY)?;
+        files.put(name, bytes)?;
+        let is_told = ends_with(rt.alloc(), &mut files, Status::Refused, text)?;
+        assert!(rt; is_told, "of {text}");
+    }
+    Ok(())
+}
+
+#[test]
+fn one_more_than_a_limit_is_refused(rt: HostRuntime) -> Result<(), Fail> {
+    for (name, line, count, text) in [
+        (
+            "o",
+            b"A < B\n".as_slice(),
+            20_001,
+            "cqapri: limit: axioms\n",
+        ),
+        (
+            "f",
+            b"A,a\n".as_slice(),
+            200_001,
+            "cqapri: limit: records\n",
+        ),
+        (
+            "q",
+            b" ".as_slice(),
+            65_537,
+            "cqapri: limit: query length\n",
+        ),
+    ] {
+        let mut files = shelf(rt.alloc(), ONTOLOGY, FACTS, QUERY)?;
+        files.put(name, &repeated(rt.alloc(), line, count)?)?;
+        let is_told = ends_with(rt.alloc(), &mut files, Status::Limit, text)?;
+        assert!(rt; is_told, "of {text}");
+    }
+    Ok(())
+}
+
+#[test]
+fn as_many_as_a_limit_are_answered(rt: HostRuntime) -> Result<(), Fail> {
+    let alloc = rt.alloc();
+    let mut files = shelf(alloc, ONTOLOGY, FACTS, QUERY)?;
+    files.put("o", &repeated(alloc, b"A < B\n", 20_000)?)?;
+    files.put("f", &repeated(alloc, b"A,a\n", 200_000)?)?;
+    let mut out = sink(alloc, None)?;
+    let mut err = sink(alloc, None)?;
+    let words = words(alloc, &CLASSIFY)?;
+    let end = run(alloc, &words, &mut files, &mut out, &mut err);
+    assert_eq!(rt; end, Status::Done);
+    assert!(rt; err.written().is_empty());
+    Ok(())
+}
+
+/// The line as often as that.
+fn repeated(alloc: Global, line: &[u8], count: usize) -> Result<Vec<u8>, AllocError> {
+    let mut text = Vec::new(alloc);
+    for _ in 0..count {
+        text.extend_from_slice(line)?;
+    }
+    Ok(text)
+}
+
+/// Whether a run on the three files ends with the status, and with the text on `err` and nothing on `out`.
+fn is_told(alloc: Global, texts: [&str; 3], status: Status, told: &str) -> Result<bool, Fail> {
+    let [ontology, facts, query] = texts;
+    let mut files = shelf(alloc, ontology, facts, query)?;
+    ends_with(alloc, &mut files, status, told)
+}
+
+/// Whether a run on the shelf ends with the status, and with the text on `err` and nothing on `out`.
+fn ends_with(
+    alloc: Global,
+    files: &mut MemShelf,
+    status: Status,
+    told: &str,
+) -> Result<bool, Fail> {
+    let mut out = sink(alloc, None)?;
+    let mut err = sink(alloc, None)?;
+    let words = words(alloc, &CLASSIFY)?;
+    let end = run(alloc, &words, files, &mut out, &mut err);
+    Ok(end == status && err.written() == told.as_bytes() && out.written().is_empty())
+}
+
+#[test]
+fn an_ontology_of_a_byte_too_many_is_beyond_its_limit(rt: HostRuntime) -> Result<(), Fail> {
+    let alloc = rt.alloc();
+    let mut files = shelf(alloc, "", FACTS, QUERY)?;
+    files.put("o", &vec![in alloc; b'\n'; 16_777_217]?)?;
+    let text = "cqapri: limit: ontology length\n";
+    assert!(rt; ends_with(alloc, &mut files, Status::Limit, text)?);
     Ok(())
 }
 
@@ -51,6 +324,8 @@ fn other_words_are_refused(rt: HostRuntime) -> Result<(), Fail> {
         "q",
     ];
     assert!(rt; are_refused(alloc, &other_order)?);
+    let without_report = ["confirm", "--ontology", "o", "--facts", "f", "--query", "q"];
+    assert!(rt; are_refused(alloc, &without_report)?);
     Ok(())
 }
 

@@ -1,9 +1,10 @@
--- Where the front line is no axiom, no axiom begins the text.
-use Rattle.axiom_reader.proofs.GrammarLemmas.{line_front}
+-- The first line ends at the first LF, or at the end of the text.
+use Rattle.axiom_reader.proofs.LineLemmas.{first_ended_is, first_last_is}
 use Rattle.axiom_reader.proofs.lines.first_line.Goals as goal
 
-pub returns-in_err-named_line-clause-none : goal.returns-in_err-named_line-clause-none
-returns-in_err-named_line-clause-none c =
-    rw c.from_residual-in_err-named_line.ensures (λ line after begins.
-    let front = line_front _ _ _ line after c.in_ok-words.ensures.found begins in
-    c.in_err-named_line.ensures.none line (record { names = begins.names; text = front.0 }))
+pub returns-in-Some : goal.returns-in-Some
+returns-in-Some c = record { exact = first_ended_is _ _ _ c.in-Some.ensures.exact c.without_return.ensures.exact c.without_return.ensures.shorter }
+
+pub returns-in-None : goal.returns-in-None
+returns-in-None c =
+    record { exact = first_last_is _ _ c.requires.more c.in-None.ensures.exact c.without_return-in-None.ensures.exact c.without_return-in-None.ensures.shorter }

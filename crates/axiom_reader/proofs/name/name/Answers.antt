@@ -7,7 +7,8 @@ use Rattle.std.specs.Result.{MatchResult, result_ok}
 use Rattle.axiom_reader.proofs.name.name.Goals as goal
 
 -- what never fails is there
-there : {T E : Type 0} (r : Result T E) (Q : T → Type 0) (R : E → Type 0) (P : Type 0) → MatchResult r Q R → ((e : E) → R e → ⊥) → MatchOption (result_ok r) P (λ _. ⊤)
+there : {T E : Type 0} (r : Result T E) (Q : T → Type 0) (R : E → Type 0) (P : Type 0) → MatchResult r Q R → ((e : E) → R e → ⊥)
+    → MatchOption (result_ok r) P (λ _. ⊤)
 there (Ok x) Q R P h never = tt
 there (Err e) Q R P h never = absurd (never e h)
 

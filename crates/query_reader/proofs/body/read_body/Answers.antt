@@ -1,9 +1,7 @@
 -- Each atom is put, and goes on with the body at a comma.
-use Rattle.std.proofs.Common.{◌≡◌, sym, subst, ap}
+use Rattle.std.proofs.Common.{sym, subst}
 use Rattle.query_reader.specs.declared.place.Place.TheVariants as at
-use Rattle.query_reader.specs.Numbering.{numbers_of}
-use Rattle.query_reader.specs.Steps.{IsHalt}
-use Rattle.query_reader.proofs.BodyLemmas.{IsBodyPart, IsAtomPart, body_none, body_atom, body_more, body_all, put_grown, both_shorter}
+use Rattle.query_reader.proofs.BodyLemmas.{IsBodyPart, body_none, body_atom, body_more, body_all, put_grown, both_shorter}
 use Rattle.query_reader.proofs.FaultLemmas.{passed, fault_here}
 use Rattle.query_reader.proofs.body.read_body.Goals as goal
 

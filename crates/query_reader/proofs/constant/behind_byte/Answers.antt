@@ -1,5 +1,5 @@
 -- A quote is written twice, and any other byte once.
-use Rattle.std.proofs.Common.{◌≡◌, ◌∷◌, ◌++◌, refl, sym, ap, ◌∙◌}
+use Rattle.std.proofs.Common.{◌∷◌, ap, ◌∙◌}
 use Rattle.query_reader.proofs.InsideLemmas.{if_some, byte_inside-other}
 use Rattle.query_reader.proofs.constant.behind_byte.Goals as goal
 

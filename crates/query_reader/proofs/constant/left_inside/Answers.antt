@@ -1,5 +1,5 @@
 -- An inside that is UTF-8 is either not closed or no fault of its own.
-use Rattle.std.proofs.Common.{inl, inr, refl, subst, arith, []}
+use Rattle.std.proofs.Common.{inl, inr, refl, subst, arith}
 use Rattle.query_reader.specs.Faults.{HasInside, in_constant}
 use Rattle.query_reader.proofs.InsideLemmas.{no_end_inside, no_break_inside}
 use Rattle.query_reader.proofs.RunLemmas.{empty_is, some_are}

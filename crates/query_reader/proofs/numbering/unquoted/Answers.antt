@@ -1,7 +1,6 @@
 -- The text of a constant is UTF-8, so it is always given.
 use Rattle.std.proofs.Common.{sym, ap, ◌∙◌, subst}
 use Rattle.std.specs.Str.{IsUtf8}
-use Rattle.std.proofs.lemmas.Str.{IsUtf8-had}
 use Rattle.query_reader.specs.Parts.{halved}
 use Rattle.query_reader.proofs.Utf8Lemmas.{IsUtf8-halved}
 use Rattle.query_reader.proofs.numbering.unquoted.Goals as goal

@@ -1,8 +1,8 @@
 -- A draft is checked, and a halt explained.
-use Rattle.std.proofs.Common.{◌≡◌, subst, sym, arith, length, ◌<◌, ◌^◌, IfOk, IfErr}
+use Rattle.std.proofs.Common.{subst, arith, IfOk, IfErr}
 use Rattle.query_reader.specs.Queries.{Explains, IsQueryOf}
 use Rattle.query_reader.proofs.MarkLemmas.{text_room, text_fits, text_grown, both_ok, if_err}
-use Rattle.query_reader.proofs.QueryLemmas.{draft_some, query_is, draft_refused, halt_explains, halt_within}
+use Rattle.query_reader.proofs.QueryLemmas.{query_is, draft_refused, halt_within}
 use Rattle.query_reader.proofs.read.read_query.Goals as goal
 
 pub read_draft-requires : goal.read_draft-requires

@@ -1,5 +1,5 @@
 -- The letters behind the mark are all of the variable.
-use Rattle.std.proofs.Common.{◌≡◌, ℕ, List, ◌∷◌, ◌++◌, drop, refl, sym, ap, ◌∙◌}
+use Rattle.std.proofs.Common.{◌≡◌, ℕ, List, ◌∷◌, drop, sym, ap, ◌∙◌}
 use Rattle.query_reader.specs.Tokens.{Stands, variable, is_letter}
 use Rattle.query_reader.specs.Parts.{IsRun}
 use Rattle.query_reader.proofs.RunLemmas.{runs_once, IsUtf8-letters, empty_is}
