@@ -1,0 +1,11 @@
+pub mod ChosenLemmas
+pub mod ClashLemmas
+pub mod CountLemmas
+pub mod CycleLemmas
+pub mod DirectLemmas
+pub mod InputLemmas
+pub mod LinearLemmas
+pub mod OrderLemmas
+pub mod RestrictLemmas
+pub mod SearchLemmas
+pub mod SplitLemmas

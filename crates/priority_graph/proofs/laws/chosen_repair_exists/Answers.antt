@@ -1,0 +1,5 @@
+use Rattle.priority_graph.proofs.ChosenLemmas.{chosen_exists}
+use Rattle.priority_graph.proofs.laws.chosen_repair_exists.Goals as goal
+
+pub returns : goal.returns
+returns c p h = chosen_exists p h

@@ -1,0 +1,5 @@
+use Rattle.priority_graph.proofs.InputLemmas.{direct_tells}
+use Rattle.priority_graph.proofs.laws.direct_tells_cores.Goals as goal
+
+pub returns : goal.returns
+returns c kb mode p of kept = direct_tells kb mode p of kept

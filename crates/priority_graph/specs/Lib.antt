@@ -1,0 +1,10 @@
+pub mod ChosenRepairs
+pub mod Cores
+pub mod Inputs
+pub mod Orders
+pub mod Priority
+pub mod Refusal
+pub mod Relations
+pub mod Split
+pub mod Tables
+pub mod Walks
