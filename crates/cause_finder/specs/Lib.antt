@@ -1,0 +1,4 @@
+pub mod Causes
+pub mod Groups
+pub mod Smaller
+pub mod Supports

@@ -1,0 +1,18 @@
+//! Finds each candidate of a query, with its causes.
+#![tactic(auto)]
+
+mod answers;
+mod candidate;
+mod gathered;
+mod groups;
+mod parts;
+mod refusal;
+mod short_list;
+mod smaller;
+mod support;
+#[cfg(test)]
+mod tests;
+
+pub use answers::causes;
+pub use candidate::Candidate;
+pub use refusal::CauseRefusal;

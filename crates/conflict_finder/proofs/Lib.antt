@@ -1,0 +1,14 @@
+pub mod Entries
+pub mod Shapes
+pub mod Parts
+pub mod Scanning
+pub mod Pigeons
+pub mod Forbidding
+pub mod Joins
+pub mod Turns
+pub mod Remaining
+pub mod Candidates
+pub mod Closings
+pub mod Clashing
+pub mod Noting
+pub mod Final

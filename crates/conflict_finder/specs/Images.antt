@@ -1,0 +1,49 @@
+-- The part of a table that has the facts of some numbers, and the keys of a query's images.
+use Rattle.std.specs.Prelude.{◌≡◌, ℕ, ◌<◌, ◌≤◌, ◌⊎◌, ◌↔◌, List, [], length, All, Contains, slice_get, Some, Bool, false, ◌==◌}
+use Rattle.std.specs.List.{AllZip}
+use Rattle.cq_terms.specs.declared.facts.Fact.{Fact}
+use Rattle.cq_terms.specs.declared.facts.Fact.TheVariants as fact
+use Rattle.cq_terms.specs.declared.query.QAtom.{QAtom}
+use Rattle.cq_terms.specs.declared.query.QAtom.TheVariants as atom
+use Rattle.cq_terms.specs.Knowledge.{AreDistinct}
+use Rattle.cq_terms.specs.Query.{Query}
+use Rattle.cq_meaning.specs.Entailment.{HasImage, IsAscending}
+use Rattle.cq_steps.specs.declared.closure.Member.{Member}
+use Rattle.conflict_finder.specs.declared.seen.Source.{Source}
+use Rattle.conflict_finder.specs.Seen.{numbers_of, HasKey}
+
+-- the facts of these numbers, which ascend, in a table of distinct facts
+pub record ArePart (facts : List Fact) (numbers : List ℕ) (part : List Fact) : Type 0 where
+  pub distinct : AreDistinct facts
+  pub ascending : IsAscending numbers
+  pub each : AllZip (λ n f. slice_get facts n ≡ Some f) numbers part
+
+-- a query with no head and one or two atoms
+abbrev pub IsShort : Query → Type 0
+IsShort q = (q.head ≡ []) × (0 < length q.body) × (length q.body ≤ 2)
+
+-- all members of all closures are short
+abbrev pub AreShort : List (ℕ × List Member) → Type 0
+AreShort closures = All (λ c. All (λ m. IsShort m.query) c.1) closures
+
+-- exactly the keys that have P
+abbrev pub AreKeys : (ℕ × ℕ → Type 0) → List (ℕ × ℕ) → Type 0
+AreKeys P keys = (k : ℕ × ℕ) → Contains keys k ↔ P k
+
+-- the query shows the set alone, or it has an entry already
+abbrev pub IsSeenOrImage : List Fact → Query → (List ℕ → Type 0) → List ((ℕ × ℕ) × Source) → List ℕ → Type 0
+IsSeenOrImage facts q W old set = ((k : ℕ × ℕ) × HasKey old k × (set ≡ numbers_of k)) ⊎ (W set × HasImage facts q [] set)
+
+-- the two atoms are of one predicate
+abbrev pub are_alike : QAtom → QAtom → Bool
+are_alike (atom.Concept a s) (atom.Concept b t) = a == b
+are_alike (atom.Link p s s') (atom.Link q t t') = p == q
+are_alike (atom.Concept a s) (atom.Link q t t') = false
+are_alike (atom.Link p s s') (atom.Concept b t) = false
+
+-- the fact is of the atom's predicate
+abbrev pub IsOfFact : QAtom → Fact → Type 0
+IsOfFact (atom.Concept a s) (fact.Concept b c) = a ≡ b
+IsOfFact (atom.Link p s s') (fact.Link q c d) = p ≡ q
+IsOfFact (atom.Concept a s) (fact.Link q c d) = ⊥
+IsOfFact (atom.Link p s s') (fact.Concept b c) = ⊥

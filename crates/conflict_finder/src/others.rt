@@ -1,0 +1,39 @@
+//! The facts that aren't self-inconsistent.
+
+ghost use Rattle.std.specs.Prelude.{◌≡◌, ◌<◌, ◌≤◌, ◌↔◌, ℕ, length, All, Contains, IfOk, Some, slice_get};
+ghost use Rattle.std.specs.List.{AllZip};
+ghost use Rattle.cq_meaning.specs.Entailment.{IsAscending};
+ghost use Rattle.conflict_finder.specs.Seen.{HasKey};
+
+use crate::seen::Seen;
+use cq_terms::{Fact, NoMemory};
+use fact_index::Index;
+use std::alloc::Global;
+
+/// The ascending numbers of the facts that weren't seen alone.
+pub(crate) fn others(alloc: Global, count: u32, seen: &Seen) -> Result<Vec<u32>, NoMemory>
+    ensures exact { IfOk result (λ v. (n : ℕ) → Contains v.items n ↔ ((n < count) × ¬ HasKey seen.now.entries (n, n))) }
+    ensures ascending { IfOk result (λ v. IsAscending v.items) }
+    ensures few { IfOk result (λ v. length v.items ≤ count) }
+{
+    let mut numbers = Vec::new(alloc);
+    for number in 0..count {
+        if !seen.contains_key(&(number, number)) {
+            numbers.push(number)?;
+        }
+    }
+    Ok(numbers)
+}
+
+/// The facts of the numbers.
+pub(crate) fn facts_at(alloc: Global, index: &Index, numbers: &[u32]) -> Result<Vec<Fact>, NoMemory>
+    requires named { All (λ n. n < length index.now) numbers.now }
+
+    ensures exact { IfOk result (λ v. AllZip (λ n f. slice_get index.now n ≡ Some f) numbers.now v.items) }
+{
+    let mut facts = Vec::with_capacity(alloc, numbers.len())?;
+    for number in numbers {
+        facts.push(index.fact(*number))?;
+    }
+    Ok(facts)
+}
