@@ -13,10 +13,10 @@ use Rattle.cqapri_cli.specs.Built.{AreAnswered, AreBuilt, AreNotBuilt, AsksForCo
 use Rattle.cqapri_cli.specs.Files.{FileNames, name_of}
 use Rattle.cqapri_cli.specs.Inputs.{AreAccepted, Held, Holds}
 use Rattle.cqapri_cli.specs.Meaning.{FilesSay, IsFetched, Says}
-use Rattle.cqapri_cli.specs.Hierarchies.{IsOfNamesBelow}
+use Rattle.concept_answers.specs.Hierarchies.{IsOfNamesBelow}
 use Rattle.cqapri_cli.specs.Numbered.{AreNumbered, IsBounded}
 use Rattle.cqapri_cli.specs.ReportFile.{AreServed, IsFetchedReport}
-use Rattle.cqapri_cli.specs.Standings.{IsOfNameBelow}
+use Rattle.concept_answers.specs.Standings.{IsOfNameBelow}
 use Rattle.cqapri_cli.specs.declared.files.File.{File}
 use Rattle.cqapri_cli.specs.declared.files.File.TheVariants as file
 use Rattle.cqapri_cli.proofs.InputLemmas.{accepted_facts, accepted_ontology, accepted_query}

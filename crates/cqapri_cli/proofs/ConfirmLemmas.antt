@@ -21,7 +21,7 @@ use Rattle.cqapri_cli.specs.Meaning.{FilesSay}
 use Rattle.cqapri_cli.specs.Numbered.{IsBounded}
 use Rattle.cqapri_cli.specs.ReportFile.{IsFetchedReport, IsOfInput, IsOfReport, StopsFetch}
 use Rattle.cqapri_cli.specs.Run.{Explains, Leaves, WritesOpen, is_write_fault, verdict_status}
-use Rattle.cqapri_cli.specs.Standings.{IsOfNameBelow}
+use Rattle.concept_answers.specs.Standings.{IsOfNameBelow}
 use Rattle.cqapri_cli.specs.Verdicts.{IsRightVerdict, Judges, WritesVerdict}
 use Rattle.cqapri_cli.specs.declared.refusal.Refusal.{Refusal}
 use Rattle.cqapri_cli.specs.declared.refusal.Refusal.TheVariants as refusal

@@ -30,9 +30,9 @@ use Rattle.query_reader.specs.Grammar.{NamedAtom, NamedQuery, concept_atom, cons
 use Rattle.query_reader.specs.Numbering.{AreAtomsOf, AreHeadOf, Numbers, with_query}
 use Rattle.query_reader.specs.Queries.{IsQueryOf}
 use Rattle.cqapri_cli.specs.Built.{AsksForConcept, NamesConcepts}
-use Rattle.cqapri_cli.specs.Hierarchies.{IsOfNamesBelow}
-use Rattle.cqapri_cli.specs.Standings.{IsOfNameBelow}
-use Rattle.cqapri_cli.proofs.ListLemmas.{Contains-slice_get}
+use Rattle.concept_answers.specs.Hierarchies.{IsOfNamesBelow}
+use Rattle.concept_answers.specs.Standings.{IsOfNameBelow}
+use Rattle.concept_answers.proofs.ListLemmas.{Contains-slice_get}
 
 -- an axiom with a role at its left side, or at its right side, or of roles, is not of names
 no_role_left : (role : Role) (negated : Bool) (right : Basic) → IsOfNames (concept_axiom (basic.Has role) negated right) → ⊥

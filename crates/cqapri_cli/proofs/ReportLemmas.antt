@@ -4,7 +4,7 @@ use Rattle.std.specs.List.{filter}
 use Rattle.std.proofs.lemmas.List.{append_assoc}
 use Rattle.std.proofs.lemmas.List.Sums.{length-filter, count_by-le-length}
 use Rattle.report_text.specs.declared.line.Line.{Line}
-use Rattle.cqapri_cli.specs.declared.verdicts.Answer.{Answer}
+use Rattle.concept_answers.specs.declared.verdicts.Answer.{Answer}
 use Rattle.cqapri_cli.specs.ReportLines.{is_brave, answer_line, core_lines, core_count, brave_count, lines_of}
 
 -- the lines of one answer

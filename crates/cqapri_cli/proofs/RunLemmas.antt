@@ -11,7 +11,7 @@ use Rattle.report_text.specs.Reports.{has_failed}
 use Rattle.report_text.specs.declared.line.Line.{Line}
 use Rattle.report_text.specs.declared.report.LineFault.{LineFault}
 use Rattle.report_text.specs.declared.report.LineFault.TheVariants as line_fault
-use Rattle.cqapri_cli.specs.Answers.{AreAnswers, HasConflicts}
+use Rattle.concept_answers.specs.Answers.{AreAnswers, HasConflicts}
 use Rattle.cqapri_cli.specs.Built.{IsAnswered}
 use Rattle.cqapri_cli.specs.Files.{FileNames, Task, AreWords, file_words, job_word, report_words}
 use Rattle.cqapri_cli.specs.Inputs.{Held, StopsFiles, IsOfFiles, is_read_fault}
@@ -26,7 +26,7 @@ use Rattle.cqapri_cli.specs.declared.refusal.Refusal.TheVariants as refusal
 use Rattle.cqapri_cli.specs.declared.report_refusal.ReportRefusal.TheVariants as report_refusal
 use Rattle.cqapri_cli.specs.declared.status.Status.{Status}
 use Rattle.cqapri_cli.specs.declared.status.Status.TheVariants as status
-use Rattle.cqapri_cli.specs.declared.verdicts.Answer.{Answer}
+use Rattle.concept_answers.specs.declared.verdicts.Answer.{Answer}
 use Rattle.cqapri_cli.proofs.EndLemmas.{same_end, served_ends_not}
 use Rattle.cqapri_cli.proofs.LawLemmas.{ReaderLaws}
 

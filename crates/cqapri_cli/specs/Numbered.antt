@@ -5,8 +5,8 @@ use Rattle.cq_meaning.specs.ConceptNames.{IsOfName, IsOfNames}
 use Rattle.cq_terms.specs.Knowledge.{Knowledge}
 use Rattle.cq_terms.specs.Query.{Query}
 use Rattle.cq_terms.specs.declared.names.Vocab.{Vocab}
-use Rattle.cqapri_cli.specs.Hierarchies.{IsOfNamesBelow}
-use Rattle.cqapri_cli.specs.Standings.{IsOfNameBelow}
+use Rattle.concept_answers.specs.Hierarchies.{IsOfNamesBelow}
+use Rattle.concept_answers.specs.Standings.{IsOfNameBelow}
 
 -- all numbers are those of names in the vocabulary
 pub record AreNumbered (kb : Knowledge) (concept : ℕ) (vocab : Vocab) : Type 0 where

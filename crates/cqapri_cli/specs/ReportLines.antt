@@ -6,7 +6,7 @@ use Rattle.report_text.specs.declared.line.Line.{Line}
 use Rattle.report_text.specs.declared.line.Line.TheVariants as line
 use Rattle.report_text.specs.declared.line.Verdict.{Verdict}
 use Rattle.report_text.specs.declared.line.Verdict.TheVariants.{Yes, No, Undecided}
-use Rattle.cqapri_cli.specs.declared.verdicts.Answer.{Answer}
+use Rattle.concept_answers.specs.declared.verdicts.Answer.{Answer}
 
 -- the head: version 0, no clause is learned or kept, and the repairs are all
 abbrev pub head_line : Knowledge → Line

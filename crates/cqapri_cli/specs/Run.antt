@@ -7,7 +7,7 @@ use Rattle.cq_terms.specs.declared.names.Vocab.{Vocab}
 use Rattle.cq_meaning.specs.Candidates.{concept_query}
 use Rattle.report_text.specs.LineBytes.{bytes_of}
 use Rattle.report_text.specs.declared.line.Line.{Line}
-use Rattle.cqapri_cli.specs.Answers.{AreAnswers, HasConflicts}
+use Rattle.concept_answers.specs.Answers.{AreAnswers, HasConflicts}
 use Rattle.cqapri_cli.specs.Built.{AreAnswered, AreNotBuilt}
 use Rattle.cqapri_cli.specs.Files.{Task, AreWords}
 use Rattle.cqapri_cli.specs.Inputs.{Held, StopsFiles}
@@ -27,7 +27,7 @@ use Rattle.cqapri_cli.specs.declared.report_refusal.ReportRefusal.{ReportRefusal
 use Rattle.cqapri_cli.specs.declared.report_refusal.ReportRefusal.TheVariants as report_refusal
 use Rattle.cqapri_cli.specs.declared.status.Status.{Status}
 use Rattle.cqapri_cli.specs.declared.status.Status.TheVariants as status
-use Rattle.cqapri_cli.specs.declared.verdicts.Answer.{Answer}
+use Rattle.concept_answers.specs.declared.verdicts.Answer.{Answer}
 
 -- the words ask for no task: they are none of the program's
 abbrev pub NameNothing : List (List ℕ) → Type 0

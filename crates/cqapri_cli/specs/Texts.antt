@@ -1,6 +1,6 @@
 -- Answers whose individuals have texts.
 use Rattle.std.specs.Prelude.{ℕ, ◌<◌, List, length, All}
-use Rattle.cqapri_cli.specs.declared.verdicts.Answer.{Answer}
+use Rattle.concept_answers.specs.declared.verdicts.Answer.{Answer}
 
 -- the answers are of individuals that have texts
 abbrev pub HaveTexts : List (List ℕ) → List Answer → Type 0

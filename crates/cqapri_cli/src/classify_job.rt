@@ -4,7 +4,7 @@ ghost use Rattle.std.specs.Prelude.{◌≡◌, None, map, string_bytes, OnOk, If
 ghost use Rattle.std.specs.List.{AllZip};
 ghost use Rattle.cq_io.specs.Faults.{TellsFault};
 ghost use Rattle.cq_meaning.specs.Candidates.{concept_query};
-ghost use Rattle.cqapri_cli.specs.Answers.{AreAnswers, HasConflicts};
+ghost use Rattle.concept_answers.specs.Answers.{AreAnswers, HasConflicts};
 ghost use Rattle.cqapri_cli.specs.Files.{AreWords};
 ghost use Rattle.cqapri_cli.specs.Inputs.{is_read_fault};
 ghost use Rattle.cqapri_cli.specs.Numbered.{AreNumbered};
@@ -15,15 +15,12 @@ ghost use Rattle.cqapri_cli.specs.Texts.{HaveTexts};
 
 use crate::Refusal;
 use crate::asked::asked_concept;
-use crate::conflicts::conflict_lists;
 use crate::input::{Input, read_input};
 use crate::paths::Paths;
 use crate::report_writer::write_report;
-use crate::standings::standing_table;
-use crate::verdicts::{Answer, answers};
+use concept_answers::{Decided, decide};
 use cq_io::{Shelf, Sink};
-use cq_meaning::concept_name_verdicts;
-use cq_terms::{Ids, NoMemory};
+use cq_terms::NoMemory;
 use query_reader::laws_of_the_grammar;
 use std::alloc::Global;
 
@@ -53,7 +50,7 @@ pub(crate) fn classify<S: Shelf, O: Sink>(
     let Some(concept) = asked_concept(&input) else {
         return Err(Refusal::NotBuilt);
     };
-    let decided = decide(alloc, &input, concept)?;
+    let decided = decide_input(alloc, &input, concept)?;
     let individuals = &input.vocab.inds;
     write_report(
         alloc,
@@ -66,17 +63,8 @@ pub(crate) fn classify<S: Shelf, O: Sink>(
     Ok(())
 }
 
-/// The answers of what the files say, and for each the facts that conflict with its witness.
-#[derive(Debug, Drop)]
-pub(crate) struct Decided {
-    /// The answers, in order.
-    pub(crate) answers: Vec<Answer>,
-    /// For each answer the numbers of the facts that conflict with its witness, where it has one.
-    pub(crate) conflicts: Vec<Ids>,
-}
-
 /// Decides the query of what the files say.
-fn decide(alloc: Global, input: &Input, concept: u32) -> Result<Decided, NoMemory>
+fn decide_input(alloc: Global, input: &Input, concept: u32) -> Result<Decided, NoMemory>
     requires numbered { AreNumbered input.now.kb concept input.now.vocab }
 
     ensures exact { IfOk result (λ decided. AreAnswers input.now.kb (concept_query concept) decided.answers.items) }
@@ -84,11 +72,12 @@ fn decide(alloc: Global, input: &Input, concept: u32) -> Result<Decided, NoMemor
     ensures texts { IfOk result (λ decided. HaveTexts input.now.vocab.inds decided.answers.items) }
     ensures few { IfOk result (λ decided. length decided.answers.items < 2 ^ 32) }
 {
-    concept_name_verdicts();
-    let (kb, vocab) = (&input.kb, &input.vocab);
-    let individuals = vocab.inds.len();
-    let standings = standing_table(alloc, kb, concept, vocab.concepts.len())?;
-    let answers = answers(alloc, kb, &standings, individuals)?;
-    let conflicts = conflict_lists(alloc, kb, &standings, &answers, individuals)?;
-    Ok(Decided { answers, conflicts })
+    let vocab = &input.vocab;
+    decide(
+        alloc,
+        &input.kb,
+        concept,
+        vocab.concepts.len(),
+        vocab.inds.len(),
+    )
 }

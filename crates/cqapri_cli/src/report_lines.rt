@@ -4,7 +4,7 @@ ghost use Rattle.std.specs.Prelude.{◌≡◌, ◌<◌, ◌^◌, length, All, If
 ghost use Rattle.report_text.specs.Lines.{IsWellFormed};
 ghost use Rattle.cqapri_cli.specs.ReportLines.{head_line, core_line, answer_line, end_line, brave_verdict, core_numbers, brave_count};
 
-use crate::verdicts::Answer;
+use concept_answers::Answer;
 use cq_terms::{Ids, Kb, Longs, Names, NoMemory, Repairs, Texts};
 use report_text::{Line, Verdict};
 use std::alloc::Global;

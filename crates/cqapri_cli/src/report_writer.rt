@@ -8,7 +8,7 @@ ghost use Rattle.cqapri_cli.specs.LineWriting.{WritesLines};
 ghost use Rattle.cqapri_cli.specs.ReportLines.{core_lines, answer_line, brave_count, core_count, lines_of, report_lines};
 
 use crate::report_lines::{answer_line, core_line, end_line, head_line};
-use crate::verdicts::Answer;
+use concept_answers::Answer;
 use cq_io::Sink;
 use cq_terms::{Ids, Kb, Names};
 use report_text::{LineFault, LineSink, Report};

@@ -1,7 +1,7 @@
 use Rattle.std.proofs.Common.{inl, map, string_bytes, refl, sym, subst}
 use Rattle.std.proofs.lemmas.Slice.Zip.{AllZip-long}
 use Rattle.cqapri_cli.specs.Paths.{names_in}
-use Rattle.cqapri_cli.specs.Answers.{AreAnswers, HasConflicts}
+use Rattle.concept_answers.specs.Answers.{AreAnswers, HasConflicts}
 use Rattle.cqapri_cli.specs.ReportLines.{report_lines}
 use Rattle.cqapri_cli.specs.Run.{Explains, Leaves}
 use Rattle.cq_io.specs.Faults.{TellsFault}
@@ -73,8 +73,8 @@ returns-clause-answers g c =
     let all = reports_of holds words (names_in c.args.paths) c.requires.words input.kb input.query c.in-Some.concept input.vocab c.in_ok-input.ensures.exact c.in-Some.ensures.found answers conflicts right cores in
     (report_lines input.kb input.vocab.inds answers conflicts, all, c.in_ok-write_report.ensures.written)
 
-pub decide-requires : goal.decide-requires
-decide-requires g c =
+pub decide_input-requires : goal.decide_input-requires
+decide_input-requires g c =
     record { numbered = numbered c.in_ok-input.input.kb c.in_ok-input.input.query c.in_ok-input.input.vocab c.in_ok-input.ensures.bounded c.in-Some.concept c.in-Some.ensures.found }
 
 pub returns-in_default-clause-explained : goal.returns-in_default-clause-explained

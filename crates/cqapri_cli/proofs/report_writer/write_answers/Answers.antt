@@ -1,7 +1,7 @@
 use Rattle.std.proofs.Common.{◌≡◌, ◌+◌, ◌<◌, length, take, get_or, None, sym, ap, subst, ◌∙◌, arith}
 use Rattle.cq_io.specs.Writing.{appended}
 use Rattle.report_text.specs.LineBytes.{bytes_of}
-use Rattle.cqapri_cli.specs.declared.verdicts.Answer.{Answer}
+use Rattle.concept_answers.specs.declared.verdicts.Answer.{Answer}
 use Rattle.cqapri_cli.specs.LineWriting.{StopsBy}
 use Rattle.cqapri_cli.specs.ReportLines.{lines_of}
 use Rattle.cqapri_cli.proofs.ReportLemmas.{lines_of_one, lines-more, lines-begin, brave_count-more}

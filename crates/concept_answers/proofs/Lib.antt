@@ -1,0 +1,11 @@
+pub mod AnswerLemmas
+pub mod ApartLemmas
+pub mod BoundLemmas
+pub mod ClosureLemmas
+pub mod ConflictLemmas
+pub mod FindingLemmas
+pub mod ListLemmas
+pub mod NameSetLemmas
+pub mod PlaceLemmas
+pub mod StandingLemmas
+pub mod TransposedLemmas
