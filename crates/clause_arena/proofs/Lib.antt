@@ -1,0 +1,5 @@
+pub mod SlotLemmas
+pub mod Contents
+pub mod Changes
+pub mod Ranking
+pub mod TestLemmas

@@ -1,0 +1,4 @@
+pub mod State
+pub mod Walk
+pub mod Slots
+pub mod Shown
