@@ -2,10 +2,11 @@
 
 use crate::desk::{CLASSIFY, shelf, sink, words};
 use cqapri_cli::{Status, run};
+use std::alloc::Global;
 use std::test::Fail;
 
 #[test]
-fn each_row_prints_its_report(rt: HostRuntime) -> Result<(), Fail> {
+fn verdicts_and_cores_are_printed(rt: HostRuntime) -> Result<(), Fail> {
     for (ontology, facts, query, report) in [
         (
             "Prof < Staff\nStudent < not Staff\n",
@@ -46,6 +47,16 @@ fn each_row_prints_its_report(rt: HostRuntime) -> Result<(), Fail> {
 {"answers":0,"ar":0,"brave":0,"iar":0,"k":"end","undecided":0}
 "#,
         ),
+    ] {
+        let is_printed = is_printed(rt.alloc(), [ontology, facts, query], report)?;
+        assert!(rt; is_printed, "of {facts}");
+    }
+    Ok(())
+}
+
+#[test]
+fn quotes_marks_and_blanks_are_read(rt: HostRuntime) -> Result<(), Fail> {
+    for (ontology, facts, query, report) in [
         (
             "",
             "A,\"Lee, Ann\"\r\nB,bob\r\nA,\"Lee, Ann\"\r\n",
@@ -67,15 +78,19 @@ fn each_row_prints_its_report(rt: HostRuntime) -> Result<(), Fail> {
 "#,
         ),
     ] {
-        let alloc = rt.alloc();
-        let mut files = shelf(alloc, ontology, facts, query)?;
-        let mut out = sink(alloc, None)?;
-        let mut err = sink(alloc, None)?;
-        let words = words(alloc, &CLASSIFY)?;
-        let status = run(alloc, &words, &mut files, &mut out, &mut err);
-        assert_eq!(rt; status, Status::Done, "of {facts}");
-        assert!(rt; out.written() == report.as_bytes(), "of {facts}");
-        assert!(rt; err.written().is_empty(), "of {facts}");
+        let is_printed = is_printed(rt.alloc(), [ontology, facts, query], report)?;
+        assert!(rt; is_printed, "of {facts}");
     }
     Ok(())
+}
+
+/// Whether a run on the three files is done, with the report on `out` and nothing on `err`.
+fn is_printed(alloc: Global, texts: [&str; 3], report: &str) -> Result<bool, Fail> {
+    let [ontology, facts, query] = texts;
+    let mut files = shelf(alloc, ontology, facts, query)?;
+    let mut out = sink(alloc, None)?;
+    let mut err = sink(alloc, None)?;
+    let words = words(alloc, &CLASSIFY)?;
+    let status = run(alloc, &words, &mut files, &mut out, &mut err);
+    Ok(status == Status::Done && out.written() == report.as_bytes() && err.written().is_empty())
 }

@@ -13,166 +13,64 @@ const FACTS: &str = "A,a\nA,b\n";
 const QUERY: &str = "?x <- B(?x)\n";
 
 #[test]
-fn the_first_fault_is_told(rt: HostRuntime) -> Result<(), Fail> {
-    for (ontology, facts, query, status, text) in [
-        (
-            "A < B\nA < < B\nsome < B\n",
-            FACTS,
-            QUERY,
-            Status::Refused,
-            "cqapri: ontology: line 2: bad line\n",
-        ),
-        (
-            ONTOLOGY,
-            "A,a\nA\nA,\n",
-            QUERY,
-            Status::Refused,
-            "cqapri: facts: record 2: bad width\n",
-        ),
-        (
-            ONTOLOGY,
-            "A,a\nA,\n",
-            QUERY,
-            Status::Refused,
-            "cqapri: facts: record 2: empty field\n",
-        ),
-        (
-            ONTOLOGY,
-            FACTS,
-            "?x <- A(?x\n",
-            Status::Refused,
-            "cqapri: query: byte 11: bad token\n",
-        ),
-        (
-            ONTOLOGY,
-            FACTS,
-            "?x ?x <- A(?x)",
-            Status::Refused,
-            "cqapri: query: head place 1: repeated\n",
-        ),
-        (
-            ONTOLOGY,
-            FACTS,
-            "?y <- A(?x)",
-            Status::Refused,
-            "cqapri: query: head place 0: not in body\n",
-        ),
-        (
-            "A <B\n",
-            FACTS,
-            QUERY,
-            Status::Refused,
-            "cqapri: ontology: line 1: bad line\n",
-        ),
-        (
-            "A < B # c\n",
-            FACTS,
-            QUERY,
-            Status::Refused,
-            "cqapri: ontology: line 1: bad line\n",
-        ),
-        (
-            "\n# c\nA < some\n",
-            FACTS,
-            QUERY,
-            Status::Refused,
-            "cqapri: ontology: line 3: bad line\n",
-        ),
-        (
-            "not < A\n",
-            FACTS,
-            QUERY,
-            Status::Refused,
-            "cqapri: ontology: line 1: bad line\n",
-        ),
-        (
-            "A < not role\n",
-            FACTS,
-            QUERY,
-            Status::Refused,
-            "cqapri: ontology: line 1: bad line\n",
-        ),
-        (
-            "role inv inv < P\n",
-            FACTS,
-            QUERY,
-            Status::Refused,
-            "cqapri: ontology: line 1: bad line\n",
-        ),
-        (
-            "func P\n",
-            FACTS,
-            QUERY,
-            Status::Refused,
-            "cqapri: ontology: line 1: bad line\n",
-        ),
-        (
-            ONTOLOGY,
-            "A,\"a\nb\"\nB\n",
-            QUERY,
-            Status::Refused,
-            "cqapri: facts: record 2: bad width\n",
-        ),
-        (
-            ONTOLOGY,
-            "A,a,b,c\n",
-            QUERY,
-            Status::Refused,
-            "cqapri: facts: record 1: bad width\n",
-        ),
-        (
-            ONTOLOGY,
-            FACTS,
-            "?x <",
-            Status::Refused,
-            "cqapri: query: byte 4: bad token\n",
-        ),
-        (
-            ONTOLOGY,
-            FACTS,
-            "?x < A(?x)",
-            Status::Refused,
-            "cqapri: query: byte 3: bad token\n",
-        ),
-        (
-            ONTOLOGY,
-            FACTS,
-            "<- some(?x)",
-            Status::Refused,
-            "cqapri: query: byte 3: bad token\n",
-        ),
-        (
-            ONTOLOGY,
-            FACTS,
-            "<- A('a",
-            Status::Refused,
-            "cqapri: query: byte 7: bad token\n",
-        ),
-        (
-            ONTOLOGY,
-            FACTS,
-            "<- A(?x) B",
-            Status::Refused,
-            "cqapri: query: byte 9: bad token\n",
-        ),
-        (
-            ONTOLOGY,
-            FACTS,
-            " \r\n",
-            Status::Refused,
-            "cqapri: query: byte 3: bad token\n",
-        ),
-        (
-            ONTOLOGY,
-            FACTS,
-            "<- A(?x),A(?x),A(?x),A(?x),A(?x),A(?x),A(?x),A(?x),A(?x),A(?x),A(?x),A(?x),A(?x)",
-            Status::Limit,
-            "cqapri: limit: query atoms\n",
-        ),
+fn the_first_bad_line_is_told(rt: HostRuntime) -> Result<(), Fail> {
+    for (ontology, line) in [
+        ("A < B\nA < < B\nsome < B\n", 2),
+        ("A <B\n", 1),
+        ("A < B # c\n", 1),
+        ("\n# c\nA < some\n", 3),
+        ("not < A\n", 1),
+        ("A < not role\n", 1),
+        ("role inv inv < P\n", 1),
+        ("func P\n", 1),
     ] {
-        let is_told = is_told(rt.alloc(), [ontology, facts, query], status, text)?;
-        assert!(rt; is_told, "of {ontology} {facts} {query}");
+        let text = format!(in rt.alloc(); "cqapri: ontology: line {line}: bad line\n")?;
+        let is_told = is_told(rt.alloc(), [ontology, FACTS, QUERY], Status::Refused, &text)?;
+        assert!(rt; is_told, "of {ontology}");
     }
+    Ok(())
+}
+
+#[test]
+fn the_first_faulty_record_is_told(rt: HostRuntime) -> Result<(), Fail> {
+    for (facts, fault) in [
+        ("A,a\nA\nA,\n", "2: bad width"),
+        ("A,a\nA,\n", "2: empty field"),
+        ("A,\"a\nb\"\nB\n", "2: bad width"),
+        ("A,a,b,c\n", "1: bad width"),
+    ] {
+        let text = format!(in rt.alloc(); "cqapri: facts: record {fault}\n")?;
+        let is_told = is_told(rt.alloc(), [ONTOLOGY, facts, QUERY], Status::Refused, &text)?;
+        assert!(rt; is_told, "of {facts}");
+    }
+    Ok(())
+}
+
+#[test]
+fn the_first_fault_of_a_query_is_told(rt: HostRuntime) -> Result<(), Fail> {
+    for (query, fault) in [
+        ("?x <- A(?x\n", "byte 11: bad token"),
+        ("?x <", "byte 4: bad token"),
+        ("?x < A(?x)", "byte 3: bad token"),
+        ("<- some(?x)", "byte 3: bad token"),
+        ("<- A('a", "byte 7: bad token"),
+        ("<- A(?x) B", "byte 9: bad token"),
+        (" \r\n", "byte 3: bad token"),
+        ("?x ?x <- A(?x)", "head place 1: repeated"),
+        ("?y <- A(?x)", "head place 0: not in body"),
+    ] {
+        let text = format!(in rt.alloc(); "cqapri: query: {fault}\n")?;
+        let is_told = is_told(rt.alloc(), [ONTOLOGY, FACTS, query], Status::Refused, &text)?;
+        assert!(rt; is_told, "of {query}");
+    }
+    Ok(())
+}
+
+#[test]
+fn a_query_of_an_atom_too_many_is_beyond_its_limit(rt: HostRuntime) -> Result<(), Fail> {
+    let query = "<- A(?x),A(?x),A(?x),A(?x),A(?x),A(?x),A(?x),A(?x),A(?x),A(?x),A(?x),A(?x),A(?x)";
+    let text = "cqapri: limit: query atoms\n";
+    assert!(rt; is_told(rt.alloc(), [ONTOLOGY, FACTS, query], Status::Limit, text)?);
     Ok(())
 }
 
