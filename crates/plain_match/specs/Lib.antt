@@ -1,0 +1,5 @@
+pub mod Hits
+pub mod Bindings
+pub mod Rows
+pub mod Extensions
+pub mod Places

@@ -1,0 +1,99 @@
+//! The facts with their numbers sorted by predicate and place.
+
+ghost use Rattle.std.specs.Prelude.{◌≡◌, ◌<◌, ℕ, length, slice_get, Some, IfOk, IfSome, All};
+ghost use Rattle.cq_terms.specs.Knowledge.{AreDistinct};
+ghost use Rattle.plain_match.specs.Places.{StandsAt, AreEntries, HasNumber};
+
+use crate::places::{Entry, Side, Sorted, entries};
+use cq_terms::{Fact, NoMemory};
+use std::alloc::Global;
+use std::marker::Model;
+
+/// The facts of a table, sorted by predicate and place. It is seen as their list.
+#[derive(Debug, Drop)]
+pub struct PlainFacts {
+    facts: Vec<Fact>,
+    members: Sorted,
+    from: Sorted,
+    to: Sorted,
+}
+
+impl Model for PlainFacts {
+    ghost use Rattle.std.specs.Prelude.{List};
+    ghost use Rattle.cq_terms.specs.declared.facts.Fact.{Fact};
+    ghost use Rattle.cq_terms.specs.Knowledge.{AreDistinct};
+    ghost use Rattle.plain_match.specs.declared.places.Side.TheVariants as side;
+    ghost use Rattle.plain_match.specs.Places.{AreEntries};
+
+    ghost Value = { List Fact };
+
+    ghost view = { λ a. a.facts.items };
+
+    ghost invariant = { λ a. AreDistinct a.facts.items × AreEntries side.Member a.facts.items a.members
+        × AreEntries side.From a.facts.items a.from × AreEntries side.To a.facts.items a.to };
+}
+
+impl PlainFacts {
+    /// Sorts the facts of a table, which are distinct. It keeps one or two entries for each. `NoMemory` may come at any time,
+    /// and comes where there are more than 2^32 facts.
+    pub fn build(alloc: Global, facts: &[Fact]) -> Result<PlainFacts, NoMemory>
+        requires distinct { AreDistinct facts.now }
+
+        ensures exact { IfOk result (λ plain. plain ≡ facts.now) }
+    {
+        let members = sorted(alloc, Side::Member, facts)?;
+        let from = sorted(alloc, Side::From, facts)?;
+        let to = sorted(alloc, Side::To, facts)?;
+        let facts = Vec::from_slice(alloc, facts)?;
+        Ok(PlainFacts {
+            facts,
+            members,
+            from,
+            to,
+        })
+    }
+
+    /// How many facts there are.
+    pub(crate) fn len(&self) -> usize
+        ensures exact { result ≡ length self.now }
+        ensures distinct { AreDistinct self.now }
+    {
+        self.facts.len()
+    }
+
+    /// The fact of a number.
+    pub(crate) fn fact(&self, number: u32) -> Fact
+        requires named { number < length self.now }
+
+        ensures exact { slice_get self.now number ≡ Some result }
+    {
+        self.facts[number as usize]
+    }
+
+    /// Lends entries of facts, among them each that has the predicate and, where one is given, the individual on that side.
+    pub(crate) fn at(&self, side: Side, pred: u32, individual: Option<u32>) -> &[Entry]
+        ensures all { (n : ℕ) (f : Fact) (ind : ℕ) → slice_get self.now n ≡ Some f → StandsAt side f pred ind
+            → IfSome individual (λ c. ind ≡ c) → HasNumber result.now n }
+        ensures named { All (λ e. e.number < length self.now) result.now }
+    {
+        self.list(side).under(pred, individual)
+    }
+
+    /// Lends the list of a side.
+    fn list(&self, side: Side) -> &Sorted
+        ensures entries { AreEntries side self.now result.now }
+    {
+        match side {
+            Side::Member => &self.members,
+            Side::From => &self.from,
+            Side::To => &self.to,
+        }
+    }
+}
+
+/// The entries of one side, sorted.
+fn sorted(alloc: Global, side: Side, facts: &[Fact]) -> Result<Sorted, NoMemory>
+    ensures exact { IfOk result (λ list. AreEntries side facts.now list) }
+{
+    Ok(Sorted::new(entries(alloc, side, facts)?))
+}

@@ -1,0 +1,93 @@
+//! The search for all matches of a query: atom by atom, each becomes one fact of the table after another.
+
+ghost use Rattle.std.specs.Prelude.{◌≡◌, ℕ, ◌<◌, ◌∷◌, [], length, OnOk};
+ghost use Rattle.plain_match.specs.Extensions.{GoesOn, GoesOnBy, CanExtend, IsSameWalk, AddsOnly, HasAll};
+
+use crate::bindings::{Walk, bind_atom};
+use crate::candidates::candidates;
+use crate::facts::PlainFacts;
+use crate::image::{image_of, tuple_of};
+use crate::row::Row;
+use cq_terms::{NoMemory, QAtom, Term};
+use std::collections::BTreeSet;
+
+/// The table, and the head whose tuples are asked for.
+#[derive(Clone, Copy)]
+pub(crate) struct Question<'a> {
+    pub facts: &'a PlainFacts,
+    pub head: &'a [Term],
+}
+
+/// Where the search stands: what the atoms so far became, and the rows that were found.
+#[derive(Drop)]
+pub(crate) struct State {
+    pub walk: Walk,
+    pub found: BTreeSet<Row>,
+}
+
+/// Finds the rows of all matches in which the atoms that are left go on from what is bound.
+#[cycle(search)]
+pub(crate) fn extend(question: &Question, rest: &[QAtom], state: &mut State) -> Result<(), NoMemory>
+    requires can { CanExtend question.now.head.now rest.now state.old.walk }
+
+    ensures only { OnOk result (AddsOnly (GoesOn question.now.facts.now question.now.head.now rest.now state.old.walk)
+        state.old.found.keys state.new.found.keys) }
+    ensures all { OnOk result (HasAll (GoesOn question.now.facts.now question.now.head.now rest.now state.old.walk)
+        state.new.found.keys) }
+    ensures same { OnOk result (IsSameWalk state.old.walk state.new.walk) }
+{
+    let Some((atom, more)) = rest.split_first() else {
+        return record(question, state);
+    };
+    for entry in candidates(question.facts, &state.walk.bindings, *atom) {
+        take(question, *atom, more, entry.number, state)?;
+    }
+    Ok(())
+}
+
+/// Finds those in which the atom becomes the fact of the number.
+#[cycle(search)]
+fn take(
+    question: &Question,
+    atom: QAtom,
+    more: &[QAtom],
+    number: u32,
+    state: &mut State,
+) -> Result<(), NoMemory>
+    requires named { number < length question.now.facts.now }
+    requires can { CanExtend question.now.head.now (atom ∷ more.now) state.old.walk }
+
+    ensures only { OnOk result (AddsOnly (GoesOnBy question.now.facts.now question.now.head.now atom more.now number state.old.walk)
+        state.old.found.keys state.new.found.keys) }
+    ensures all { OnOk result (HasAll (GoesOnBy question.now.facts.now question.now.head.now atom more.now number state.old.walk)
+        state.new.found.keys) }
+    ensures same { OnOk result (IsSameWalk state.old.walk state.new.walk) }
+{
+    let mark = state.walk.bindings.len();
+    if !bind_atom(&mut state.walk.bindings, atom, question.facts.fact(number))? {
+        state.walk.bindings.truncate(mark);
+        return Ok(());
+    }
+    state.walk.path.push(number)?;
+    extend(question, more, state)?;
+    state.walk.path.pop();
+    state.walk.bindings.truncate(mark);
+    Ok(())
+}
+
+/// Adds the row of a whole match.
+fn record(question: &Question, state: &mut State) -> Result<(), NoMemory>
+    requires can { CanExtend question.now.head.now [] state.old.walk }
+
+    ensures only { OnOk result (AddsOnly (GoesOn question.now.facts.now question.now.head.now [] state.old.walk)
+        state.old.found.keys state.new.found.keys) }
+    ensures all { OnOk result (HasAll (GoesOn question.now.facts.now question.now.head.now [] state.old.walk)
+        state.new.found.keys) }
+    ensures same { OnOk result (IsSameWalk state.old.walk state.new.walk) }
+{
+    let alloc = *state.walk.path.allocator();
+    let tuple = tuple_of(alloc, question.head, &state.walk.bindings)?;
+    let image = image_of(alloc, &state.walk.path)?;
+    state.found.insert(Row { tuple, image })?;
+    Ok(())
+}

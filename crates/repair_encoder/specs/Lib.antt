@@ -1,0 +1,6 @@
+pub mod BaseClauses
+pub mod CauseClauses
+pub mod Components
+pub mod Laws
+pub mod Twins
+pub mod Walks
