@@ -1,0 +1,10 @@
+pub mod Entries
+pub mod TableLemmas
+pub mod ValueLemmas
+pub mod LevelLemmas
+pub mod Fitting
+pub mod Freedom
+pub mod LastValues
+pub mod Passes
+pub mod Picking
+pub mod TestLemmas

@@ -1,0 +1,10 @@
+pub mod Assigned
+pub mod Table
+pub mod Values
+pub mod Choices
+pub mod Scores
+pub mod State
+pub mod Shown
+pub mod Levels
+pub mod Fits
+pub mod Looks
