@@ -8,11 +8,11 @@ use Rattle.cdcl_trail.specs.declared.entry.Entry.{Entry}
 use Rattle.cdcl_trail.specs.Assigned.{IsTrueOn}
 use Rattle.cdcl_trail.specs.State.{State, with_lasts}
 
--- the reason is a live clause that has the literal, and whose other literals are false on the trail before it
+-- the reason is a live clause of two or more literals that has this one, and whose others are false on the trail before it
 abbrev pub IsReason : Arena → List Entry → ℕ → Option ClauseRef → Type 0
 IsReason arena before literal None = Unit {0}
 IsReason arena before literal (Some reference) =
-    (clause : List ℕ) × Names arena reference.place clause × Forces clause (IsTrueOn before) literal
+    (clause : List ℕ) × Names arena reference.place clause × (2 ≤ length clause) × Forces clause (IsTrueOn before) literal
 
 -- over the same variables: no two opposite literals, each reason a live clause that forces by what is before it, and all that is
 -- pending of the current level

@@ -13,7 +13,8 @@ force-requires-clause-unassigned c = unassigned_from_free c.args.self.now.entrie
 
 pub returns-in-Forces-clause-fits : goal.returns-in-Forces-clause-fits
 returns-in-Forces-clause-fits c =
-    c.force.ensures.fits c.args.arena.now c.requires.fits (c.view-literals.result.now, c.view-literals.ensures.named, c.in-Forces.ensures.0)
+    c.force.ensures.fits c.args.arena.now c.requires.fits
+    (c.view-literals.result.now, c.view-literals.ensures.named, omega (arith, c.if-literals-lt2.false), c.in-Forces.ensures.0)
 
 pub returns-in-Rests-clause-visited : goal.returns-in-Rests-clause-visited
 returns-in-Rests-clause-visited c =

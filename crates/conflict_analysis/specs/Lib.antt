@@ -1,0 +1,6 @@
+pub mod Levels
+pub mod Learning
+pub mod Searching
+pub mod Lessons
+pub mod Resolving
+pub mod Trials
