@@ -1,0 +1,12 @@
+pub mod Tallies
+pub mod Walks
+pub mod Orders
+pub mod Counting
+pub mod Labelling
+pub mod Sweeps
+pub mod Numbering
+pub mod LogLemmas
+pub mod StoreKept
+pub mod Shows
+pub mod Values
+pub mod TestLemmas

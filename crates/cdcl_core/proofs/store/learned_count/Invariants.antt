@@ -1,0 +1,6 @@
+use Rattle.std.proofs.Common.{◌≡◌, length, take}
+use Rattle.cdcl_core.specs.Labels.{numbers_on}
+use Rattle.cdcl_core.proofs.store.learned_count.Given as goal
+
+abbrev pub invariant-loop-label : goal.invariant-loop-label
+invariant-loop-label l = l.count ≡ length (numbers_on (take l.label-index l.labels))

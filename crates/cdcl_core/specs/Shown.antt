@@ -1,0 +1,32 @@
+-- What the fields of a `Store` and of a `Solver` show.
+use Rattle.std.specs.Prelude.{ℕ, List, Bool, true, false, Option, Some, None, map}
+use Rattle.cdcl_trail.specs.declared.entry.Entry.{Entry}
+use Rattle.cdcl_core.specs.declared.store.Store.TheInside.{Inside as StoreInside}
+use Rattle.cdcl_core.specs.declared.solver.Solver.TheInside.{Inside as SolverInside}
+use Rattle.cdcl_core.specs.State.{State}
+use Rattle.cdcl_core.specs.Labels.{labelled}
+use Rattle.cdcl_core.specs.Store.{Parts, IsKept}
+
+-- the parts that a store has
+abbrev pub parts_of : StoreInside → Parts
+parts_of s = record { arena = s.arena; labels = s.labels.items; trail = s.trail; next = s.next }
+
+abbrev pub StoreIsKept : StoreInside → Type 0
+StoreIsKept s = IsKept (parts_of s)
+
+-- the literals that the entries make true
+abbrev pub literals_on : List Entry → List ℕ
+literals_on entries = map (λ entry. entry.literal) entries
+
+-- they, where they are those of a model
+abbrev pub values_on : Bool → List Entry → Option (List ℕ)
+values_on true entries = Some (literals_on entries)
+values_on false entries = None
+
+abbrev pub shown : SolverInside → State
+shown s = record {
+  variables = s.store.arena.variables;
+  live = labelled s.store.labels s.store.arena.live;
+  next = s.store.next;
+  values = values_on s.found s.store.trail.entries;
+}

@@ -1,0 +1,39 @@
+//! How a solve and a call of a log end.
+
+/// How many clauses may be learned, and how many were.
+#[derive(Clone, Copy, Debug, PartialEq, Eq)]
+pub struct Budget {
+    /// How many may be learned in all.
+    pub limit: u64,
+    /// How many were.
+    pub used: u64,
+}
+
+/// How a solve ended.
+#[derive(Clone, Copy, Debug, PartialEq, Eq)]
+pub enum Outcome {
+    /// The values satisfy the assumptions and every clause of the scope.
+    Model,
+    /// Propagation alone refutes the assumptions with the clauses of the scope.
+    Refuted,
+    /// The budget is used up, and propagation doesn't refute the assumptions.
+    Spent,
+}
+
+/// Why a log didn't take a clause.
+#[derive(Clone, Copy, Debug, PartialEq, Eq)]
+pub enum LogFault {
+    /// It failed, and counted a fault.
+    Failed,
+    /// Memory ran out, and the log is as it was.
+    NoMemory,
+}
+
+/// Why a solve didn't come to an outcome.
+#[derive(Clone, Copy, Debug, PartialEq, Eq)]
+pub enum SolveFault {
+    /// The log failed.
+    Log,
+    /// Memory ran out.
+    NoMemory,
+}

@@ -1,0 +1,258 @@
+//! The clauses in an arena, a label for each, and the trail, which counts in how many clauses each variable stands.
+
+ghost use Rattle.std.specs.Prelude.{◌≡◌, ◌<◌, ◌≤◌, ◌^◌, ◌++◌, ◌∷◌, [], false, All, filter, length, IfOk, OnOk, OnErr, vec_len, vec_capacity};
+ghost use Rattle.clause_arena.specs.State.{Holds, IsLive, AreAscending, with_clause};
+ghost use Rattle.cdcl_core.specs.State.{AscendsAs, numbers_in, value_in, put_number};
+ghost use Rattle.cdcl_core.specs.Labels.{numbers_on, stays, Drops, DropsIf};
+ghost use Rattle.cdcl_core.specs.Store.{AreCounted, AreProper, IsProper, IsAscending, OnlyCounts};
+ghost use Rattle.cdcl_core.specs.Shown.{literals_on};
+ghost use Rattle.cdcl_core.specs.Changes.{AddsGiven, DropsClauses, IsSameStore, live_in};
+
+use crate::counts::{lower, raise};
+use crate::labels::{Label, Which};
+use cdcl_trail::Trail;
+use clause_arena::{Arena, ClauseRef};
+use clause_meaning::literal_of;
+use cq_terms::{Longs, NoMemory};
+use std::alloc::Global;
+use std::marker::Model;
+
+/// Live clauses with their labels, in the same order, and the trail over their variables.
+#[derive(Drop)]
+pub struct Store {
+    arena: Arena,
+    labels: Vec<Label>,
+    trail: Trail,
+    next: u64,
+}
+
+impl Model for Store {
+    ghost use Rattle.cdcl_core.specs.Store.{Parts};
+
+    ghost Value = { Parts };
+
+    ghost use Rattle.cdcl_core.specs.Shown.{parts_of, StoreIsKept};
+
+    ghost view = { parts_of };
+
+    ghost invariant = { StoreIsKept };
+}
+
+impl Store {
+    /// A store with no clause.
+    pub fn new(alloc: Global, variables: u32) -> Result<Store, NoMemory>
+        requires { variables ≤ 2 ^ 31 }
+        ensures variables { IfOk result (λ store. store.arena.variables ≡ variables) }
+        ensures empty { IfOk result (λ store. store.arena.live ≡ []) }
+        ensures labels { IfOk result (λ store. store.labels ≡ []) }
+        ensures next { IfOk result (λ store. store.next ≡ 0) }
+    {
+        Ok(Store {
+            arena: Arena::new(alloc, variables)?,
+            labels: Vec::new(alloc),
+            trail: Trail::new(alloc, variables)?,
+            next: 0,
+        })
+    }
+
+    /// Whether the trail makes the variable present.
+    pub fn value(&self, variable: u32) -> bool
+        requires { variable < self.now.arena.variables }
+        ensures { result ≡ value_in (literals_on self.now.trail.entries) variable }
+    {
+        let _distinct = self.trail.literals();
+        match self.trail.value(literal_of(variable, true)) {
+            Some(value) => value,
+            None => false,
+        }
+    }
+
+    /// How many learned clauses there are.
+    pub fn learned_live(&self) -> u64
+        ensures { result ≡ length (numbers_in (live_in self.now)) }
+    {
+        learned_count(self.labels.as_slice())
+    }
+
+    /// The numbers of the learned clauses.
+    pub fn learned_numbers(&self) -> Result<Longs, NoMemory>
+        ensures exact { IfOk result (λ numbers. numbers ≡ numbers_in (live_in self.now)) }
+        ensures ascending { IsAscending (numbers_in (live_in self.now)) }
+    {
+        learned_numbers(*self.labels.allocator(), self.labels.as_slice())
+    }
+
+    /// Adds a given clause.
+    pub fn add_given(&mut self, clause: &[u32]) -> Result<(), NoMemory>
+        requires proper { IsProper self.old.arena.variables clause.now }
+        ensures added { OnOk result (AddsGiven self.old self.new clause.now) }
+        ensures unchanged { OnErr result (IsSameStore self.old self.new) }
+    {
+        let literals = ascending(*self.labels.allocator(), clause)?;
+        self.arena.reserve(literals.len())?;
+        self.labels.reserve(1)?;
+        put(
+            &mut self.arena,
+            &mut self.labels,
+            &mut self.trail,
+            None,
+            literals.as_slice(),
+        );
+        Ok(())
+    }
+
+    /// Drops clauses.
+    pub fn drop_clauses(&mut self, which: Which)
+        ensures exact { DropsClauses self.old self.new which }
+    {
+        drop_where(
+            &mut self.arena,
+            &mut self.trail,
+            self.labels.as_mut_slice(),
+            which,
+        );
+        drop_marked(&mut self.labels);
+    }
+
+    /// Closes the gaps that dropped clauses left.
+    pub fn compact(&mut self)
+        ensures exact { IsSameStore self.old self.new }
+    {
+        let mut none: [ClauseRef; 0] = [];
+        self.arena.compact(&mut none);
+    }
+}
+
+/// The literals of a clause, ascending.
+fn ascending(alloc: Global, clause: &[u32]) -> Result<Vec<u32>, NoMemory>
+    ensures { IfOk result (λ literals. AscendsAs clause.now literals.items) }
+{
+    let mut literals = Vec::from_slice(alloc, clause)?;
+    literals.sort_unstable();
+    Ok(literals)
+}
+
+/// How many labels have a number.
+fn learned_count(labels: &[Label]) -> u64
+    ensures { result ≡ length (numbers_on labels.now) }
+{
+    let mut count = 0;
+    for label in labels {
+        count += label.count();
+    }
+    count
+}
+
+/// The numbers on the labels.
+fn learned_numbers(alloc: Global, labels: &[Label]) -> Result<Longs, NoMemory>
+    ensures { IfOk result (λ numbers. numbers ≡ numbers_on labels.now) }
+{
+    let mut numbers = Longs::new(alloc);
+    for label in labels {
+        push_number(&mut numbers, label.number)?;
+    }
+    Ok(numbers)
+}
+
+/// Appends the number, where there is one.
+fn push_number(numbers: &mut Longs, number: Option<u64>) -> Result<(), NoMemory>
+    ensures { OnOk result (numbers.new ≡ numbers.old ++ put_number number []) }
+{
+    match number {
+        None => Ok(()),
+        Some(number) => numbers.push(number),
+    }
+}
+
+/// Puts a clause into the arena, with its label, where there is room for both.
+fn put(
+    arena: &mut Arena,
+    labels: &mut Vec<Label>,
+    trail: &mut Trail,
+    number: Option<u64>,
+    literals: &[u32],
+) -> ClauseRef
+    requires proper { IsProper arena.old.variables literals.now }
+    requires spared { length literals.now ≤ arena.old.spare }
+    requires room { vec_len labels.old < vec_capacity labels.old }
+    requires same_variables { trail.old.variables ≡ arena.old.variables }
+    requires parallel { vec_len labels.old ≡ length arena.old.live }
+    requires counted { AreCounted trail.old arena.old.live }
+    requires all_proper { AreProper arena.old.variables arena.old.live }
+
+    ensures clause { Holds arena.old arena.new (with_clause arena.old.live result.place literals.now) }
+    ensures label { labels.new.items ≡ labels.old.items ++ record { number = number; goes = false } ∷ [] }
+    ensures counted { AreCounted trail.new arena.new.live }
+    ensures only { OnlyCounts trail.old trail.new }
+{
+    let clause = match arena.push(literals) {
+        Ok(clause) => clause,
+        Err(NoMemory) => unreachable!(),
+    };
+    match labels.push(Label {
+        number,
+        goes: false,
+    }) {
+        Ok(()) => {}
+        Err(_) => unreachable!(),
+    }
+    raise(trail, literals);
+    clause
+}
+
+/// Drops the clauses that `which` takes, and marks their labels.
+fn drop_where(arena: &mut Arena, trail: &mut Trail, labels: &mut [Label], which: Which)
+    requires same_variables { trail.old.variables ≡ arena.old.variables }
+    requires parallel { length labels.old ≡ length arena.old.live }
+    requires stay { All (λ label. label.goes ≡ false) labels.old }
+    requires counted { AreCounted trail.old arena.old.live }
+    requires proper { AreProper arena.old.variables arena.old.live }
+
+    ensures dropped { Drops which labels.old arena.old.live labels.new arena.new.live }
+    ensures variables { arena.new.variables ≡ arena.old.variables }
+    ensures counted { AreCounted trail.new arena.new.live }
+    ensures proper { AreProper arena.new.variables arena.new.live }
+    ensures only { OnlyCounts trail.old trail.new }
+{
+    let mut at = arena.first();
+    let mut place = 0;
+    while let Some(clause) = at {
+        at = arena.next(clause);
+        labels[place].goes = drop_if(arena, trail, labels[place].number, clause, which);
+        place += 1;
+    }
+}
+
+/// Takes out the labels of clauses that went.
+fn drop_marked(labels: &mut Vec<Label>)
+    ensures { labels.new.items ≡ filter stays labels.old.items }
+{
+    labels.retain(|label| !label.goes);
+}
+
+/// Drops a clause where `which` takes it, and answers whether it did.
+fn drop_if(
+    arena: &mut Arena,
+    trail: &mut Trail,
+    number: Option<u64>,
+    clause: ClauseRef,
+    which: Which,
+) -> bool
+    requires same_variables { trail.old.variables ≡ arena.old.variables }
+    requires live { IsLive arena.old clause.place }
+    requires ascending { AreAscending arena.old.live }
+    requires counted { AreCounted trail.old arena.old.live }
+
+    ensures exact { DropsIf which number clause.place arena.old.live arena.new.live result }
+    ensures variables { arena.new.variables ≡ arena.old.variables }
+    ensures counted { AreCounted trail.new arena.new.live }
+    ensures only { OnlyCounts trail.old trail.new }
+{
+    let literals = arena.view(clause);
+    if !which.takes(number, literals) {
+        return false;
+    }
+    lower(trail, literals);
+    arena.drop_clause(clause);
+    true
+}
