@@ -1,0 +1,5 @@
+pub mod CoreLemmas
+pub mod GrowthLemmas
+pub mod MissingLemmas
+pub mod SetLemmas
+pub mod TestLemmas

@@ -1,0 +1,5 @@
+pub mod Growth
+pub mod Laws
+pub mod Missing
+pub mod Sets
+pub mod Wanted
