@@ -27,12 +27,10 @@ use Rattle.refutation_confirmer.specs.Split.{StartsWith}
 -- a count is at most that of the lines
 counts : (p : Progress) (lines : List Line) → ((fold after p lines).cores ≤ p.cores + length lines) × ((fold after p lines).answers ≤ p.answers + length lines) × ((fold after p lines).brave ≤ p.brave + length lines)
 counts p [] = (omega arith, omega arith, omega arith)
-counts p (line.Head axioms budget facts keep repairs version ∷ lines) = let h = counts (after p (line.Head axioms budget facts keep repairs version)) lines in (omega (arith, h.0), omega (arith, h.1), omega (arith, h.2))
-counts p (line.Core number kept dropped ∷ lines) = let h = counts (after p (line.Core number kept dropped)) lines in (omega (arith, h.0), omega (arith, h.1), omega (arith, h.2))
 counts p (line.Answer Yes ar iar cores names tuple ∷ lines) = let h = counts (after p (line.Answer Yes ar iar cores names tuple)) lines in (omega (arith, h.0), omega (arith, h.1), omega (arith, h.2))
 counts p (line.Answer No ar iar cores names tuple ∷ lines) = let h = counts (after p (line.Answer No ar iar cores names tuple)) lines in (omega (arith, h.0), omega (arith, h.1), omega (arith, h.2))
 counts p (line.Answer Undecided ar iar cores names tuple ∷ lines) = let h = counts (after p (line.Answer Undecided ar iar cores names tuple)) lines in (omega (arith, h.0), omega (arith, h.1), omega (arith, h.2))
-counts p (line.End answers brave ar iar undecided ∷ lines) = let h = counts (after p (line.End answers brave ar iar undecided)) lines in (omega (arith, h.0), omega (arith, h.1), omega (arith, h.2))
+counts p (l ∷ lines) = let h = counts (after p l) lines in (omega (arith, h.0), omega (arith, h.1), omega (arith, h.2))
 
 -- each line has a byte at least
 lines_are_bytes : (lines : List Line) → length lines ≤ length (bytes_of lines)
@@ -122,16 +120,12 @@ module _ (kb : Knowledge) (q : Query) (texts : List (List ℕ)) (candidates : Li
     where
       never : (l : Line) → own_rule l ≡ rule.Text → ⊥
       never (line.Head axioms budget facts keep mode version) e = cc e
-      never (line.Core number kept dropped) e = cc e
-      never (line.Answer brave ar iar cores names tuple) e = cc e
-      never (line.End answers brave ar iar undecided) e = cc e
+      never l e = cc e
   breaks_broken before rest more l rule.Missing w s b = absurd (never l b.1)
     where
       never : (l : Line) → own_rule l ≡ rule.Missing → ⊥
       never (line.Head axioms budget facts keep mode version) e = cc e
-      never (line.Core number kept dropped) e = cc e
-      never (line.Answer brave ar iar cores names tuple) e = cc e
-      never (line.End answers brave ar iar undecided) e = cc e
+      never l e = cc e
   breaks_broken before rest more l rule.Order w s b = (l, more, w, s, b)
   breaks_broken before rest more l rule.Closed w s b = (l, more, w, s, b)
   breaks_broken before rest more l rule.Head w s b = (l, more, w, s, b)

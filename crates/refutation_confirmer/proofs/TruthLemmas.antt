@@ -40,13 +40,11 @@ module _ (kb : Knowledge) (q : Query) (texts : List (List ℕ)) (candidates : Li
 
   step : (k : ℕ) (l : Line) → slice_get lines k ≡ Some l → IsRight kb q texts candidates (progress_of (take k lines)) l → Told k
       → filter_map tuple_of (take k lines ++ l ∷ []) ≡ take (after (progress_of (take k lines)) l).answers candidates
-  step k (line.Head axioms budget facts keep mode version) e r h = filter_map-append tuple_of (take k lines) (line.Head axioms budget facts keep mode version ∷ []) ∙ append-nil (filter_map tuple_of (take k lines)) ∙ h
-  step k (line.Core number kept dropped) e r h = filter_map-append tuple_of (take k lines) (line.Core number kept dropped ∷ []) ∙ append-nil (filter_map tuple_of (take k lines)) ∙ h
-  step k (line.End answers brave ar iar undecided) e r h = filter_map-append tuple_of (take k lines) (line.End answers brave ar iar undecided ∷ []) ∙ append-nil (filter_map tuple_of (take k lines)) ∙ h
   step k (line.Answer brave ar iar cores names tuple) e r h =
       filter_map-append tuple_of (take k lines) (line.Answer brave ar iar cores names tuple ∷ [])
       ∙ ap (λ xs. xs ++ tuple ∷ []) h
       ∙ sym (take_next candidates (progress_of (take k lines)).answers tuple r.own.next)
+  step k l e r h = filter_map-append tuple_of (take k lines) (l ∷ []) ∙ append-nil (filter_map tuple_of (take k lines)) ∙ h
 
   line_at : (k : ℕ) → k < length lines → (l : Line) × (slice_get lines k ≡ Some l)
   line_at k m = let d = line.End 0 0 0 0 0 in (get_or lines k d, slice_get-get_or lines k d m)
@@ -64,10 +62,8 @@ module _ (kb : Knowledge) (q : Query) (texts : List (List ℕ)) (candidates : Li
 
   -- the last line ends the answers where no candidate is left
   ends : (k : ℕ) (l : Line) → slice_get lines k ≡ Some l → (after (progress_of (take k lines)) l).last ≡ Some kind.End → (after (progress_of (take k lines)) l).answers ≡ length candidates
-  ends k (line.Head axioms budget facts keep mode version) is h = cc h
-  ends k (line.Core number kept dropped) is h = cc h
-  ends k (line.Answer brave ar iar cores names tuple) is h = cc h
   ends k (line.End answers brave ar iar undecided) is h = (right k (line.End answers brave ar iar undecided) is).own.none_left
+  ends k l is h = cc h
 
   -- so where the last line is the end
   all_answered : (k : ℕ) → length lines ≡ k + 1 → HasEnded lines → (progress_of lines).answers ≡ length candidates
@@ -113,12 +109,10 @@ module _ (kb : Knowledge) (all_names : All IsOfNames kb.axioms) (all_facts : All
 
   -- a right line is true
   true_line : (texts : List (List ℕ)) (candidates : List (List ℕ)) (progress : Progress) (l : Line) → AreCandidates kb (concept_query concept) candidates → IsRight kb (concept_query concept) texts candidates progress l → IsTrueLine kb (concept_query concept) l
-  true_line texts candidates progress (line.Head axioms budget facts keep mode version) are r = tt
-  true_line texts candidates progress (line.Core number kept dropped) are r = tt
-  true_line texts candidates progress (line.End answers brave ar iar undecided) are r = tt
   true_line texts candidates progress (line.Answer brave ar iar cores names tuple) are r =
       let w = one_individual kb concept tuple (All-contains (FactsEntail kb Every (concept_query concept)) candidates tuple are.entailed (member_at candidates progress.answers tuple r.own.next)) in
       subst (λ xs. AreTrueVerdicts kb (concept_query concept) xs brave ar iar) (sym w.1) (true_verdicts progress w.0 brave ar iar cores (subst (λ xs. IsRightBrave kb (concept_query concept) progress xs brave cores) w.1 r.own.brave_right) r.own.ar_open r.own.iar_open)
+  true_line texts candidates progress l are r = tt
 
   -- an accepted report is true
   pub true_report : (texts : List (List ℕ)) (report : List ℕ) (answers : ℕ) → IsAccepted kb texts (concept_query concept) report answers → IsTrueReport kb (concept_query concept) report answers

@@ -6,15 +6,16 @@ use Rattle.report_text.specs.declared.line.Line.TheVariants as line
 use Rattle.report_text.specs.declared.line.Verdict.{Verdict}
 use Rattle.report_text.specs.declared.line.Verdict.TheVariants.{Yes}
 use Rattle.refutation_confirmer.specs.declared.progress.Kind.{Kind}
-use Rattle.refutation_confirmer.specs.declared.progress.Kind.TheVariants.{Head, Core, Answer, End}
+use Rattle.refutation_confirmer.specs.declared.progress.Kind.TheVariants.{Head, Core, Answer, End, Other}
 use Rattle.refutation_confirmer.specs.declared.progress.Progress.{Progress}
 
--- the kind of a line
+-- the kind of a line; `Other` for one that stands in no report of the first version
 abbrev pub kind_of : Line → Kind
 kind_of (line.Head axioms budget facts keep repairs version) = Head
 kind_of (line.Core number kept dropped) = Core
 kind_of (line.Answer brave ar iar cores names tuple) = Answer
 kind_of (line.End answers brave ar iar undecided) = End
+kind_of _ = Other
 
 -- whether a line of the kind may follow one of the last kind
 abbrev pub may_follow : Option Kind → Kind → Bool
@@ -43,6 +44,7 @@ after p (line.Head axioms budget facts keep repairs version) = record p { last =
 after p (line.Core number kept dropped) = record p { last = Some Core; cores = p.cores + 1 }
 after p (line.Answer brave ar iar cores names tuple) = record p { last = Some Answer; answers = p.answers + 1; brave = p.brave + yes brave }
 after p (line.End answers brave ar iar undecided) = record p { last = Some End }
+after p _ = record p { last = Some Other }
 
 -- what the lines amount to
 abbrev pub progress_of : List Line → Progress

@@ -76,12 +76,13 @@ pub record IsRightEnd (candidates : List (List ℕ)) (progress : Progress) (answ
   pub no_iar : iar ≡ 0
   pub all_undecided : undecided ≡ progress.answers
 
--- the line obeys the rule of its kind
+-- the line obeys the rule of its kind; one of another kind obeys none
 abbrev pub ObeysOwnRule : Knowledge → Query → List (List ℕ) → List (List ℕ) → Progress → Line → Type 0
 ObeysOwnRule kb q texts candidates progress (line.Head axioms budget facts keep mode version) = IsRightHead kb axioms budget facts keep mode version
 ObeysOwnRule kb q texts candidates progress (line.Core number kept dropped) = IsRightCore kb q candidates progress number kept dropped
 ObeysOwnRule kb q texts candidates progress (line.Answer brave ar iar cores names tuple) = IsRightAnswer kb q texts candidates progress brave ar iar cores names tuple
 ObeysOwnRule kb q texts candidates progress (line.End answers brave ar iar undecided) = IsRightEnd candidates progress answers brave ar iar undecided
+ObeysOwnRule kb q texts candidates progress _ = ⊥
 
 -- the rule of the line's kind
 abbrev pub own_rule : Line → Rule
@@ -89,6 +90,13 @@ own_rule (line.Head axioms budget facts keep mode version) = rule.Head
 own_rule (line.Core number kept dropped) = rule.Core
 own_rule (line.Answer brave ar iar cores names tuple) = rule.Answer
 own_rule (line.End answers brave ar iar undecided) = rule.End
+own_rule (line.Cq of query made_by) = rule.Cq
+own_rule (line.Conflict facts number place) = rule.Conflict
+own_rule (line.Ask candidate tuple causes members) = rule.Ask
+own_rule (line.Try question assume) = rule.Try
+own_rule (line.Learn number clause) = rule.Learn
+own_rule (line.Done how core) = rule.Done
+own_rule (line.Forget clauses) = rule.Forget
 
 -- whether the line may stand here, by its kind
 abbrev pub is_in_order : Progress → Line → Bool

@@ -16,6 +16,8 @@ pub enum Kind {
     Answer,
     /// The end.
     End,
+    /// A kind that stands in no report of the first version.
+    Other,
 }
 
 /// What the lines so far amount to.
@@ -94,6 +96,13 @@ pub fn kind_of(line: &Line) -> Kind
         Line::Core { .. } => Kind::Core,
         Line::Answer { .. } => Kind::Answer,
         Line::End { .. } => Kind::End,
+        Line::Cq { .. }
+        | Line::Conflict { .. }
+        | Line::Ask { .. }
+        | Line::Try { .. }
+        | Line::Learn { .. }
+        | Line::Done { .. }
+        | Line::Forget { .. } => Kind::Other,
     }
 }
 

@@ -56,6 +56,13 @@ fn own_rule(line: &Line) -> Rule
         Line::Core { .. } => Rule::Core,
         Line::Answer { .. } => Rule::Answer,
         Line::End { .. } => Rule::End,
+        Line::Cq { .. } => Rule::Cq,
+        Line::Conflict { .. } => Rule::Conflict,
+        Line::Ask { .. } => Rule::Ask,
+        Line::Try { .. } => Rule::Try,
+        Line::Learn { .. } => Rule::Learn,
+        Line::Done { .. } => Rule::Done,
+        Line::Forget { .. } => Rule::Forget,
     }
 }
 
@@ -126,6 +133,13 @@ fn obeys_own_rule(
             iar,
             undecided,
         } => Ok(is_right_end(tables, progress, *answers, *brave, *ar, *iar, *undecided)),
+        Line::Cq { .. }
+        | Line::Conflict { .. }
+        | Line::Ask { .. }
+        | Line::Try { .. }
+        | Line::Learn { .. }
+        | Line::Done { .. }
+        | Line::Forget { .. } => Ok(false),
     }
 }
 

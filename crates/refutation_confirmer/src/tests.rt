@@ -105,6 +105,17 @@ fn each_alteration_breaks_its_rule(rt: HostRuntime) -> Result<(), Fail> {
             no(3, Rule::Text),
         ),
         ("\"version\":0", "\"version\":2", no(1, Rule::Text)),
+        // Kinds that stand in no report of the first version.
+        (
+            "{\"dropped\"",
+            "{\"clauses\":[0],\"k\":\"forget\"}\n{\"dropped\"",
+            no(2, Rule::Order),
+        ),
+        (
+            "{\"ar\"",
+            "{\"core\":0,\"how\":\"model\",\"k\":\"done\"}\n{\"ar\"",
+            no(3, Rule::Order),
+        ),
         // The head.
         ("\"axioms\":2", "\"axioms\":3", no(1, Rule::Head)),
         ("\"budget\":0", "\"budget\":1", no(1, Rule::Head)),

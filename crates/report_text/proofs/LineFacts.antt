@@ -11,7 +11,14 @@ use Rattle.report_text.specs.declared.line.Line.{Line}
 use Rattle.report_text.specs.declared.line.Line.TheVariants as line
 use Rattle.report_text.specs.Fields.{word_at}
 use Rattle.report_text.specs.HeadLine.{head_at}
+use Rattle.report_text.specs.CqLine.{cq_at}
+use Rattle.report_text.specs.ConflictLine.{conflict_at}
+use Rattle.report_text.specs.AskLine.{ask_at}
+use Rattle.report_text.specs.TryLine.{try_at}
+use Rattle.report_text.specs.LearnLine.{learn_at}
 use Rattle.report_text.specs.CoreLine.{core_at}
+use Rattle.report_text.specs.DoneLine.{done_at}
+use Rattle.report_text.specs.ForgetLine.{forget_at}
 use Rattle.report_text.specs.AnswerLine.{answer_at}
 use Rattle.report_text.specs.EndLine.{end_at}
 use Rattle.report_text.specs.Lines.{IsWellFormed, data_of, text_of, line_of_kind, line_at, line_of}
@@ -19,7 +26,14 @@ use Rattle.report_text.proofs.NoLineFeed.{has_line_feed}
 use Rattle.report_text.proofs.Plain.{IsPlain, read-compact_text, IsUtf8-compact_text}
 use Rattle.report_text.proofs.NoLineFeed.{none-compact_text}
 use Rattle.report_text.proofs.HeadFacts.{IsPlain-head_data, depth-head_data, head_at-head_data, IsWellFormed-head_at}
+use Rattle.report_text.proofs.CqFacts.{has_float-cq_data, IsPlain-cq_data, depth-cq_data, cq_at-cq_data, IsWellFormed-cq_at}
+use Rattle.report_text.proofs.ConflictFacts.{has_float-conflict_data, IsPlain-conflict_data, depth-conflict_data, conflict_at-conflict_data, IsWellFormed-conflict_at}
+use Rattle.report_text.proofs.AskFacts.{has_float-ask_data, IsPlain-ask_data, depth-ask_data, ask_at-ask_data, IsWellFormed-ask_at}
+use Rattle.report_text.proofs.TryFacts.{has_float-try_data, IsPlain-try_data, depth-try_data, try_at-try_data, IsWellFormed-try_at}
+use Rattle.report_text.proofs.LearnFacts.{has_float-learn_data, IsPlain-learn_data, depth-learn_data, learn_at-learn_data, IsWellFormed-learn_at}
 use Rattle.report_text.proofs.CoreFacts.{has_float-core_data, IsPlain-core_data, depth-core_data, core_at-core_data, IsWellFormed-core_at}
+use Rattle.report_text.proofs.DoneFacts.{has_float-done_data, IsPlain-done_data, depth-done_data, done_at-done_data, IsWellFormed-done_at}
+use Rattle.report_text.proofs.ForgetFacts.{has_float-forget_data, IsPlain-forget_data, depth-forget_data, forget_at-forget_data, IsWellFormed-forget_at}
 use Rattle.report_text.proofs.AnswerFacts.{has_float-answer_data, IsPlain-answer_data, depth-answer_data, answer_at-answer_data, IsWellFormed-answer_at}
 use Rattle.report_text.proofs.EndFacts.{IsPlain-end_data, depth-end_data, end_at-end_data, IsWellFormed-end_at}
 
@@ -28,21 +42,42 @@ use Rattle.report_text.proofs.EndFacts.{IsPlain-end_data, depth-end_data, end_at
 -- no line has a float
 has_float-data_of : (l : Line) → has_float (data_of l) ≡ false
 has_float-data_of (line.Head axioms budget facts keep repairs version) = refl
+has_float-data_of (line.Cq of query made_by) = has_float-cq_data of query made_by
+has_float-data_of (line.Conflict facts rule place) = has_float-conflict_data facts rule place
+has_float-data_of (line.Ask candidate tuple causes members) = has_float-ask_data candidate tuple causes members
+has_float-data_of (line.Try question assume) = has_float-try_data question assume
+has_float-data_of (line.Learn number clause) = has_float-learn_data number clause
 has_float-data_of (line.Core number kept dropped) = has_float-core_data number kept dropped
+has_float-data_of (line.Done how core) = has_float-done_data how core
+has_float-data_of (line.Forget clauses) = has_float-forget_data clauses
 has_float-data_of (line.Answer brave ar iar cores names tuple) = has_float-answer_data brave ar iar cores names tuple
 has_float-data_of (line.End answers brave ar iar undecided) = refl
 
 -- a well-formed line's JSON is plain
 IsPlain-data_of : (l : Line) → IsWellFormed l → IsPlain (data_of l)
 IsPlain-data_of (line.Head axioms budget facts keep repairs version) h = IsPlain-head_data axioms budget facts keep repairs version h
+IsPlain-data_of (line.Cq of query made_by) h = IsPlain-cq_data of query made_by h
+IsPlain-data_of (line.Conflict facts rule place) h = IsPlain-conflict_data facts rule place h
+IsPlain-data_of (line.Ask candidate tuple causes members) h = IsPlain-ask_data candidate tuple causes members h
+IsPlain-data_of (line.Try question assume) h = IsPlain-try_data question assume h
+IsPlain-data_of (line.Learn number clause) h = IsPlain-learn_data number clause h
 IsPlain-data_of (line.Core number kept dropped) h = IsPlain-core_data number kept dropped h
+IsPlain-data_of (line.Done how core) h = IsPlain-done_data how core h
+IsPlain-data_of (line.Forget clauses) h = IsPlain-forget_data clauses h
 IsPlain-data_of (line.Answer brave ar iar cores names tuple) h = IsPlain-answer_data brave ar iar cores names tuple h
 IsPlain-data_of (line.End answers brave ar iar undecided) h = IsPlain-end_data answers brave ar iar undecided h
 
 -- a line's JSON is shallow
 depth-data_of : (l : Line) → depth (data_of l) ≤ max_depth
 depth-data_of (line.Head axioms budget facts keep repairs version) = depth-head_data axioms budget facts keep repairs version
+depth-data_of (line.Cq of query made_by) = depth-cq_data of query made_by
+depth-data_of (line.Conflict facts rule place) = depth-conflict_data facts rule place
+depth-data_of (line.Ask candidate tuple causes members) = depth-ask_data candidate tuple causes members
+depth-data_of (line.Try question assume) = depth-try_data question assume
+depth-data_of (line.Learn number clause) = depth-learn_data number clause
 depth-data_of (line.Core number kept dropped) = depth-core_data number kept dropped
+depth-data_of (line.Done how core) = depth-done_data how core
+depth-data_of (line.Forget clauses) = depth-forget_data clauses
 depth-data_of (line.Answer brave ar iar cores names tuple) = depth-answer_data brave ar iar cores names tuple
 depth-data_of (line.End answers brave ar iar undecided) = depth-end_data answers brave ar iar undecided
 
@@ -50,21 +85,37 @@ depth-data_of (line.End answers brave ar iar undecided) = depth-end_data answers
 line_at-data_of : (l : Line) → IsWellFormed l → line_at (data_of l) ≡ Some l
 unfolding line_at
 line_at-data_of (line.Head axioms budget facts keep repairs version) h = head_at-head_data axioms budget facts keep repairs version h
+line_at-data_of (line.Cq of query made_by) h = cq_at-cq_data of query made_by h
+line_at-data_of (line.Conflict facts rule place) h = conflict_at-conflict_data facts rule place h
+line_at-data_of (line.Ask candidate tuple causes members) h = ask_at-ask_data candidate tuple causes members h
+line_at-data_of (line.Try question assume) h = try_at-try_data question assume h
+line_at-data_of (line.Learn number clause) h = learn_at-learn_data number clause h
 line_at-data_of (line.Core number kept dropped) h = core_at-core_data number kept dropped h
+line_at-data_of (line.Done how core) h = done_at-done_data how core h
+line_at-data_of (line.Forget clauses) h = forget_at-forget_data clauses h
 line_at-data_of (line.Answer brave ar iar cores names tuple) h = answer_at-answer_data brave ar iar cores names tuple h
 line_at-data_of (line.End answers brave ar iar undecided) h = end_at-end_data answers brave ar iar undecided h
 
 -- a line that is found by its kind is well formed
 IsWellFormed-line_of_kind : (word : List ℕ) (d : Data) (found : Line) → line_of_kind word d ≡ Some found → IsWellFormed found
-IsWellFormed-line_of_kind word d found e = by (bytes_eq word (codes "head")) (bytes_eq word (codes "core")) (bytes_eq word (codes "answer")) (bytes_eq word (codes "end")) e
+IsWellFormed-line_of_kind word d found e =
+    by (bytes_eq word (codes "head")) (bytes_eq word (codes "cq")) (bytes_eq word (codes "conflict")) (bytes_eq word (codes "ask")) (bytes_eq word (codes "try")) (bytes_eq word (codes "learn")) (bytes_eq word (codes "core")) (bytes_eq word (codes "done")) (bytes_eq word (codes "forget")) (bytes_eq word (codes "answer")) (bytes_eq word (codes "end")) e
   where
-    by : (head core answer end : Bool)
-        → (if head then head_at d else if core then core_at d else if answer then answer_at d else if end then end_at d else None) ≡ Some found → IsWellFormed found
-    by true core answer end e = IsWellFormed-head_at d found e
-    by false true answer end e = IsWellFormed-core_at d found e
-    by false false true end e = IsWellFormed-answer_at d found e
-    by false false false true e = IsWellFormed-end_at d found e
-    by false false false false e = cc e
+    by : (head_is cq_is conflict_is ask_is try_is learn_is core_is done_is forget_is answer_is end_is : Bool)
+        → (if head_is then head_at d else if cq_is then cq_at d else if conflict_is then conflict_at d else if ask_is then ask_at d else if try_is then try_at d else if learn_is then learn_at d else if core_is then core_at d else if done_is then done_at d else if forget_is then forget_at d else if answer_is then answer_at d else if end_is then end_at d else None) ≡ Some found
+        → IsWellFormed found
+    by true cq_is conflict_is ask_is try_is learn_is core_is done_is forget_is answer_is end_is e = IsWellFormed-head_at d found e
+    by false true conflict_is ask_is try_is learn_is core_is done_is forget_is answer_is end_is e = IsWellFormed-cq_at d found e
+    by false false true ask_is try_is learn_is core_is done_is forget_is answer_is end_is e = IsWellFormed-conflict_at d found e
+    by false false false true try_is learn_is core_is done_is forget_is answer_is end_is e = IsWellFormed-ask_at d found e
+    by false false false false true learn_is core_is done_is forget_is answer_is end_is e = IsWellFormed-try_at d found e
+    by false false false false false true core_is done_is forget_is answer_is end_is e = IsWellFormed-learn_at d found e
+    by false false false false false false true done_is forget_is answer_is end_is e = IsWellFormed-core_at d found e
+    by false false false false false false false true forget_is answer_is end_is e = IsWellFormed-done_at d found e
+    by false false false false false false false false true answer_is end_is e = IsWellFormed-forget_at d found e
+    by false false false false false false false false false true end_is e = IsWellFormed-answer_at d found e
+    by false false false false false false false false false false true e = IsWellFormed-end_at d found e
+    by false false false false false false false false false false false e = cc e
 
 -- ALL KINDS
 

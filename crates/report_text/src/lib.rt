@@ -2,19 +2,28 @@
 #![tactic(auto)]
 
 mod answer;
+mod ask;
+mod atoms;
+mod conflict;
 mod core_line;
+mod cq_line;
+mod done;
 mod end;
 mod fields;
+mod forget;
 mod head;
+mod learn;
 mod line;
 mod line_sink;
 mod printing;
 mod reading;
 mod report;
+mod safe_query;
 #[cfg(test)]
 mod tests;
+mod try_line;
 
-pub use line::{Line, Verdict};
+pub use line::{How, Line, Origin, Question, Verdict};
 pub use line_sink::{LineSink, bytes_tell_their_lines};
 pub use printing::print;
 pub use reading::{ReadRefusal, equal_texts_are_of_equal_lines, read, texts_have_no_line_feed};

@@ -9,11 +9,18 @@ ghost use Rattle.report_text.specs.Lines.{IsWellFormed, text_of, line_of_kind, l
 
 use crate::Line;
 use crate::answer::answer_at;
+use crate::ask::ask_at;
+use crate::conflict::conflict_at;
 use crate::core_line::core_at;
+use crate::cq_line::cq_at;
+use crate::done::done_at;
 use crate::end::end_at;
 use crate::fields::word_at;
+use crate::forget::forget_at;
 use crate::head::head_at;
+use crate::learn::learn_at;
 use crate::printing::print;
+use crate::try_line::try_at;
 use cq_terms::NoMemory;
 use serde_json::{Error, Value};
 use std::alloc::Global;
@@ -83,7 +90,14 @@ fn line_of_kind(alloc: Global, word: &str, value: &Value) -> Result<Option<Line>
 {
     match word {
         "head" => Ok(head_at(value)),
+        "cq" => cq_at(alloc, value),
+        "conflict" => conflict_at(alloc, value),
+        "ask" => ask_at(alloc, value),
+        "try" => try_at(alloc, value),
+        "learn" => learn_at(alloc, value),
         "core" => core_at(alloc, value),
+        "done" => Ok(done_at(value)),
+        "forget" => forget_at(alloc, value),
         "answer" => answer_at(alloc, value),
         "end" => Ok(end_at(value)),
         _ => Ok(None),

@@ -1,17 +1,31 @@
 //! Outside vectors: a report byte for byte, a name with escapes of every kind, and texts that are no lines.
 
-use crate::{Line, LineFault, LineSink, ReadRefusal, Report, Verdict, print, read};
+use crate::{Line, LineFault, LineSink, Origin, ReadRefusal, Report, Verdict, print, read};
 use cq_io::MemSink;
+use cq_steps::Move;
+use cq_terms::{QAtom, Term};
 use std::test::Fail;
 
+// A tuple that is brave and neither AR nor IAR, with the evidence.
 const REPORT: &str =
-    r#"{"axioms":2,"budget":0,"facts":2,"k":"head","keep":0,"repairs":"all","version":0}
+    r#"{"axioms":2,"budget":20000,"facts":2,"k":"head","keep":20000,"repairs":"pareto","version":1}
+{"body":[["c",1,0]],"head":[0],"k":"cq","move":null,"of":"query","parent":null}
+{"body":[["c",0,0]],"head":[0],"k":"cq","move":["axiom",0,0],"of":"query","parent":0}
+{"body":[["c",1,0],["c",2,0]],"head":[],"k":"cq","move":null,"of":1,"parent":null}
+{"body":[["c",0,0],["c",2,0]],"head":[],"k":"cq","move":["axiom",0,0],"of":1,"parent":0}
+{"facts":[0,1],"k":"conflict","member":1,"of":1}
+{"candidate":0,"causes":[[0]],"k":"ask","members":[1],"tuple":[0]}
+{"assume":[0],"k":"try","q":"brave"}
 {"dropped":[1],"k":"core","kept":[0],"n":0}
-{"ar":"undecided","brave":"yes","cores":[0],"iar":"undecided","k":"answer","names":["ann"],"tuple":[0]}
-{"answers":1,"ar":0,"brave":1,"iar":0,"k":"end","undecided":1}
+{"core":0,"how":"model","k":"done"}
+{"assume":[1],"k":"try","q":"iar"}
+{"dropped":[0],"k":"core","kept":[1],"n":1}
+{"core":1,"how":"model","k":"done"}
+{"ar":"no","brave":"yes","cores":[0,1],"iar":"no","k":"answer","names":["ann"],"tuple":[0]}
+{"answers":1,"ar":0,"brave":1,"iar":0,"k":"end","undecided":0}
 "#;
 
-const END: &str = r#"{"answers":1,"ar":0,"brave":1,"iar":0,"k":"end","undecided":1}"#;
+const END: &str = r#"{"answers":1,"ar":0,"brave":1,"iar":0,"k":"end","undecided":0}"#;
 
 // A name, and its line with the escapes that RFC 8259 has.
 const NAME: &str = "\"q\\\u{8}\u{c}\n\r\t\u{1}/é漢𝄞";
@@ -36,6 +50,55 @@ fn a_report_goes_to_the_sink_line_by_line(rt: HostRuntime) -> Result<(), Fail> {
 }
 
 #[test]
+fn further_lines_come_back(rt: HostRuntime) -> Result<(), Fail> {
+    let alloc = rt.alloc();
+    for text in [
+        r#"{"axioms":2,"budget":0,"facts":2,"k":"head","keep":0,"repairs":"all","version":0}"#,
+        // A role, an individual and `_`; and two atoms made one.
+        r#"{"body":[["c",1,[7]],["r",0,0,null]],"head":[0,[7]],"k":"cq","move":["reduce",1,2],"of":4294967295,"parent":3}"#,
+        r#"{"facts":[5],"k":"conflict","member":0,"of":1}"#,
+        r#"{"candidate":1,"causes":[],"k":"ask","members":[],"tuple":[]}"#,
+        r#"{"assume":[9],"k":"try","q":"ar"}"#,
+        r#"{"clause":[3,9],"k":"learn","n":18446744073709551615}"#,
+        r#"{"core":null,"how":"refuted","k":"done"}"#,
+        r#"{"core":null,"how":"spent","k":"done"}"#,
+        r#"{"clauses":[0,18446744073709551615],"k":"forget"}"#,
+    ] {
+        let printed = print(alloc, &read(alloc, text.as_bytes())?)?;
+        assert_eq!(rt; printed.as_str(), text);
+    }
+    Ok(())
+}
+
+#[test]
+fn a_query_is_read_from_its_line(rt: HostRuntime) -> Result<(), Fail> {
+    let text =
+        r#"{"body":[["c",1,[7]],["r",2,0,null]],"head":[0],"k":"cq","move":["axiom",4,5],"of":6,"parent":3}"#;
+    let Line::Cq {
+        origin,
+        query,
+        step,
+    } = read(rt.alloc(), text.as_bytes())?
+    else {
+        return Err(Fail::from("another kind"));
+    };
+    assert_eq!(rt; origin, Origin::Negative(6));
+    assert_eq!(rt; step, Some((3, Move::Axiom { atom: 4, axiom: 5 })));
+    assert_eq!(rt; query.head(), [Term::Var(0)].as_slice());
+    let individual = QAtom::Concept {
+        pred: 1,
+        at: Term::Ind(7),
+    };
+    let link = QAtom::Link {
+        pred: 2,
+        from: Term::Var(0),
+        to: Term::Any,
+    };
+    assert_eq!(rt; query.body(), [individual, link].as_slice());
+    Ok(())
+}
+
+#[test]
 fn a_name_with_escapes_comes_back(rt: HostRuntime) -> Result<(), Fail> {
     let alloc = rt.alloc();
     let text = print(alloc, &read(alloc, NAME_LINE.as_bytes())?)?;
@@ -52,6 +115,50 @@ fn a_name_with_escapes_comes_back(rt: HostRuntime) -> Result<(), Fail> {
     assert_eq!(rt; (brave, iar), (Verdict::Yes, Verdict::No));
     assert_eq!(rt; names.len(), 1);
     assert_eq!(rt; names.as_slice()[0].as_str(), NAME);
+    Ok(())
+}
+
+#[test]
+fn altered_lines_are_none(rt: HostRuntime) -> Result<(), Fail> {
+    let alloc = rt.alloc();
+    for text in [
+        // Queries: no atom, `_` or another variable in the head, another atom and move, null alone, an index past 2^32 - 1.
+        r#"{"body":[],"head":[],"k":"cq","move":null,"of":"query","parent":null}"#,
+        r#"{"body":[["c",0,0]],"head":[null],"k":"cq","move":null,"of":"query","parent":null}"#,
+        r#"{"body":[["c",0,0]],"head":[1],"k":"cq","move":null,"of":"query","parent":null}"#,
+        r#"{"body":[["x",0,0]],"head":[],"k":"cq","move":null,"of":"query","parent":null}"#,
+        r#"{"body":[["c",0,0,0]],"head":[],"k":"cq","move":null,"of":"query","parent":null}"#,
+        r#"{"body":[["r",0,0]],"head":[],"k":"cq","move":null,"of":"query","parent":null}"#,
+        r#"{"body":[["c",0,[0,1]]],"head":[],"k":"cq","move":null,"of":"query","parent":null}"#,
+        r#"{"body":[["c",0,0]],"head":[],"k":"cq","move":["rename",0,0],"of":"query","parent":0}"#,
+        r#"{"body":[["c",0,0]],"head":[],"k":"cq","move":["axiom",0,0],"of":"query","parent":null}"#,
+        r#"{"body":[["c",0,0]],"head":[],"k":"cq","move":null,"of":"query","parent":0}"#,
+        r#"{"body":[["c",0,0]],"head":[],"k":"cq","move":null,"of":"axiom","parent":null}"#,
+        r#"{"body":[["c",4294967296,0]],"head":[],"k":"cq","move":null,"of":"query","parent":null}"#,
+        // Conflicts: no fact, three of them, null for a number.
+        r#"{"facts":[],"k":"conflict","member":1,"of":1}"#,
+        r#"{"facts":[0,1,2],"k":"conflict","member":1,"of":1}"#,
+        r#"{"facts":[0],"k":"conflict","member":null,"of":1}"#,
+        // Candidates: a number for a list, another order of keys, a space.
+        r#"{"candidate":0,"causes":[0],"k":"ask","members":[1],"tuple":[0]}"#,
+        r#"{"causes":[[0]],"candidate":0,"k":"ask","members":[1],"tuple":[0]}"#,
+        r#"{"candidate":0,"causes":[[0, 1]],"k":"ask","members":[1],"tuple":[0]}"#,
+        // Tries, learned clauses and ends of tries: words, ranges, a core without a model and a model without one.
+        r#"{"assume":[0],"k":"try","q":"AR"}"#,
+        r#"{"assume":[4294967296],"k":"try","q":"ar"}"#,
+        r#"{"clause":[0],"k":"learn","n":18446744073709551616}"#,
+        r#"{"core":null,"how":"model","k":"done"}"#,
+        r#"{"core":0,"how":"refuted","k":"done"}"#,
+        r#"{"core":0,"how":"spent","k":"done"}"#,
+        r#"{"core":0,"how":"open","k":"done"}"#,
+        r#"{"clauses":0,"k":"forget"}"#,
+    ] {
+        assert_eq!(rt;
+            read(alloc, text.as_bytes()).err(),
+            Some(ReadRefusal::BadLine),
+            "of {text}"
+        );
+    }
     Ok(())
 }
 
@@ -76,12 +183,11 @@ fn other_texts_are_no_lines(rt: HostRuntime) -> Result<(), Fail> {
         r#"{"answers":"1","ar":0,"brave":1,"iar":0,"k":"end","undecided":1}"#,
         r#"{"answers":18446744073709551616,"ar":0,"brave":1,"iar":0,"k":"end","undecided":1}"#,
         r#"{"dropped":[1],"k":"core","kept":[4294967296],"n":0}"#,
-        // Words: an unknown version, repairs, verdict and kind, a kind of later, and an escape that isn't needed.
+        // Words: an unknown version, repairs, verdict and kind, and an escape that isn't needed.
         r#"{"axioms":2,"budget":0,"facts":2,"k":"head","keep":0,"repairs":"all","version":2}"#,
         r#"{"axioms":2,"budget":0,"facts":2,"k":"head","keep":0,"repairs":"some","version":0}"#,
         r#"{"ar":"maybe","brave":"yes","cores":[0],"iar":"no","k":"answer","names":["ann"],"tuple":[0]}"#,
         r#"{"dropped":[1],"k":"kernel","kept":[0],"n":0}"#,
-        r#"{"clauses":[0],"k":"forget"}"#,
         r#"{"ar":"no","brave":"yes","cores":[0],"iar":"no","k":"answer","names":["\u0061nn"],"tuple":[0]}"#,
     ] {
         assert_eq!(rt;

@@ -1,7 +1,7 @@
 use Rattle.std.proofs.Common.{◌≡◌, ◌++◌, drop, option_map}
 use Rattle.serde_json.specs.View.{items_view}
 use Rattle.report_text.specs.Fields.{each_of, id_of}
-use Rattle.report_text.proofs.fields.ids_at.Given as goal
+use Rattle.report_text.proofs.fields.ids_of.Given as goal
 
 -- the numbers so far go before what the rest of the items gives
 abbrev pub invariant-loop-item : goal.invariant-loop-item
