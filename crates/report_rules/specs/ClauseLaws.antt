@@ -1,0 +1,25 @@
+-- The laws of base clauses: they are those of each priority that is the input's, and they say "chosen repair".
+use Rattle.std.specs.Prelude.{◌↔◌, ℕ, List, Bool}
+use Rattle.cq_terms.specs.declared.facts.Repairs.{Repairs}
+use Rattle.cq_terms.specs.Knowledge.{Knowledge}
+use Rattle.cq_meaning.specs.Repairs.{IsAcyclic, IsChosen}
+use Rattle.clause_meaning.specs.Assignments.{SatisfiesAll}
+use Rattle.priority_graph.specs.Priority.{Priority}
+use Rattle.priority_graph.specs.Inputs.{IsPriorityOf}
+use Rattle.repair_encoder.specs.BaseClauses as encoder
+use Rattle.repair_encoder.specs.BaseClauses.{AllFacts}
+use Rattle.report_rules.specs.Clauses.{IsBaseClause}
+
+-- the base clauses of an input are those of its priority in the mode
+abbrev pub BaseClausesOfPriority : Type 0
+BaseClausesOfPriority = (kb : Knowledge) (mode : Repairs) (p : Priority) → IsPriorityOf kb mode p → (c : List ℕ)
+    → IsBaseClause kb mode c ↔ encoder.IsBaseClause p (AllFacts p) c
+
+-- each input has its priority in each mode
+abbrev pub InputHasPriority : Type 0
+InputHasPriority = (kb : Knowledge) (mode : Repairs) → (p : Priority) × IsPriorityOf kb mode p
+
+-- under an acyclic priority an assignment satisfies the base clauses exactly where its present facts are a chosen repair
+abbrev pub BaseClausesSayChosen : Type 0
+BaseClausesSayChosen = (kb : Knowledge) (mode : Repairs) → IsAcyclic kb mode → (v : ℕ → Bool)
+    → SatisfiesAll v (IsBaseClause kb mode) ↔ IsChosen kb mode v

@@ -1,0 +1,16 @@
+-- The law of conflict lines: the clashes of a table are what the lines have to tell.
+use Rattle.std.specs.Prelude.{List, ℕ, map}
+use Rattle.cq_terms.specs.declared.hits.Clash.{Clash}
+use Rattle.cq_terms.specs.Conflicts.{ConflictGraph, AreClashes}
+use Rattle.cq_terms.specs.Knowledge.{Knowledge}
+use Rattle.priority_graph.specs.Inputs.{AreConflictsOf}
+use Rattle.report_rules.specs.ConflictLists.{AreConflictLists}
+
+-- the facts of each clash, in their order
+abbrev pub facts_told : List Clash → List (List ℕ)
+facts_told clashes = map (λ (c : Clash). c.facts) clashes
+
+-- ordered clashes that are the conflicts of a knowledge base tell its conflicts in the order of the lines
+abbrev pub ClashesAreConflictLists : Type 0
+ClashesAreConflictLists = (kb : Knowledge) (g : ConflictGraph) → AreConflictsOf kb g → AreClashes g.facts g.clashes
+    → AreConflictLists kb (facts_told g.clashes)
