@@ -102,6 +102,24 @@ loop-rest-preserved-in_default-2-2 c =
     let right = rw c.in_default-2.is at c.in_ok-rule.ensures.exact in
     rw c.after-progress.ensures.exact (ConfirmsSo-more a.kb.now (concept_query t.tables.concept) a.vocab.now.inds (tuples_of t.tables.candidates.items) a.report.now s.rest.now c.in-Some.more.now s.number s.progress c.in-Some.line s.invariant found.0 found.1 right)
 
+pub loop-rest-preserved-in_default-2-6 : goal.loop-rest-preserved-in_default-2-6
+loop-rest-preserved-in_default-2-6 c =
+    let a = c.args in
+    let t = c.in_ok-tables in
+    let s = c.loop-rest in
+    let found = rw c.in-Some.is at c.in_ok-line.ensures.exact in
+    let right = rw c.in_default-2.is at c.in_ok-rule.ensures.exact in
+    rw c.after-progress.ensures.exact (ConfirmsSo-more a.kb.now (concept_query t.tables.concept) a.vocab.now.inds (tuples_of t.tables.candidates.items) a.report.now s.rest.now c.in-Some.more.now s.number s.progress c.in-Some.line s.invariant found.0 found.1 right)
+
+pub loop-rest-preserved-in_default-2-8 : goal.loop-rest-preserved-in_default-2-8
+loop-rest-preserved-in_default-2-8 c =
+    let a = c.args in
+    let t = c.in_ok-tables in
+    let s = c.loop-rest in
+    let found = rw c.in-Some.is at c.in_ok-line.ensures.exact in
+    let right = rw c.in_default-2.is at c.in_ok-rule.ensures.exact in
+    rw c.after-progress.ensures.exact (ConfirmsSo-more a.kb.now (concept_query t.tables.concept) a.vocab.now.inds (tuples_of t.tables.candidates.items) a.report.now s.rest.now c.in-Some.more.now s.number s.progress c.in-Some.line s.invariant found.0 found.1 right)
+
 pub loop-rest-preserved : goal.loop-rest-preserved
 loop-rest-preserved c =
     let a = c.args in
