@@ -10,3 +10,13 @@ pub mod StoreKept
 pub mod Shows
 pub mod Values
 pub mod TestLemmas
+pub mod Units
+pub mod Seeks
+pub mod GoesBack
+pub mod Models
+pub mod StepLemmas
+pub mod Bare
+pub mod Learnt
+pub mod Rooms
+pub mod Runs
+pub mod Outcomes

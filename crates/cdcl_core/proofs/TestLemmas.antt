@@ -14,3 +14,6 @@ distinct_two k l n =
 
 pub below_two : (n k l : ℕ) → variable_of k < n → variable_of l < n → AreBelow n (k ∷ l ∷ [])
 below_two n k l p q = All-cons (λ x. variable_of x < n) k (l ∷ []) p (All-cons (λ x. variable_of x < n) l [] q (All-nil (λ x. variable_of x < n)))
+
+pub below_one : (n l : ℕ) → variable_of l < n → AreBelow n (l ∷ [])
+below_one n l p = All-cons (λ x. variable_of x < n) l [] p (All-nil (λ x. variable_of x < n))

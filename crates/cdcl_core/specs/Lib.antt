@@ -5,3 +5,7 @@ pub mod Changes
 pub mod Shown
 pub mod Logs
 pub mod MemLogs
+pub mod Learning
+pub mod Solving
+pub mod Seeking
+pub mod Trials

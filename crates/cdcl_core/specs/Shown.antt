@@ -1,9 +1,9 @@
 -- What the fields of a `Store` and of a `Solver` show.
-use Rattle.std.specs.Prelude.{ℕ, List, Bool, true, false, Option, Some, None, map}
+use Rattle.std.specs.Prelude.{◌≡◌, ◌<◌, ℕ, List, Bool, true, false, Option, Some, None, map}
 use Rattle.cdcl_trail.specs.declared.entry.Entry.{Entry}
 use Rattle.cdcl_core.specs.declared.store.Store.TheInside.{Inside as StoreInside}
 use Rattle.cdcl_core.specs.declared.solver.Solver.TheInside.{Inside as SolverInside}
-use Rattle.cdcl_core.specs.State.{State}
+use Rattle.cdcl_core.specs.State.{State, value_in}
 use Rattle.cdcl_core.specs.Labels.{labelled}
 use Rattle.cdcl_core.specs.Store.{Parts, IsKept}
 
@@ -30,3 +30,7 @@ shown s = record {
   next = s.store.next;
   values = values_on s.found s.store.trail.entries;
 }
+
+-- while a model is there, each variable that it makes present is in range
+abbrev pub SolverIsKept : SolverInside → Type 0
+SolverIsKept s = s.found ≡ true → (v : ℕ) → value_in (literals_on s.store.trail.entries) v ≡ true → v < s.store.arena.variables

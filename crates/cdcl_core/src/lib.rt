@@ -6,6 +6,8 @@ mod labels;
 mod mem_log;
 mod outcome;
 mod proof_log;
+mod seek;
+mod seeking;
 mod solver;
 mod store;
 #[cfg(test)]

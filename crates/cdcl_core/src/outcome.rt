@@ -1,5 +1,11 @@
 //! How a solve and a call of a log end.
 
+ghost use Rattle.std.specs.Prelude.{◌≡◌};
+ghost use Rattle.cdcl_core.specs.declared.outcome.SolveFault.TheVariants as fault;
+
+use cq_terms::NoMemory;
+use std::alloc::AllocError;
+
 /// How many clauses may be learned, and how many were.
 #[derive(Clone, Copy, Debug, PartialEq, Eq)]
 pub struct Budget {
@@ -36,4 +42,20 @@ pub enum SolveFault {
     Log,
     /// Memory ran out.
     NoMemory,
+}
+
+impl From<NoMemory> for SolveFault {
+    ghost from_gives = { λ _ f. f ≡ fault.NoMemory };
+
+    fn from(_error: NoMemory) -> SolveFault {
+        SolveFault::NoMemory
+    }
+}
+
+impl From<AllocError> for SolveFault {
+    ghost from_gives = { λ _ f. f ≡ fault.NoMemory };
+
+    fn from(_error: AllocError) -> SolveFault {
+        SolveFault::NoMemory
+    }
 }

@@ -1,11 +1,16 @@
 //! The solver: it is seen as its live clauses in order, the number of the next learned one, and the values of the last model.
 
-ghost use Rattle.std.specs.Prelude.{◌≡◌, ◌≢◌, ◌<◌, ◌≤◌, ◌^◌, [], None, Some, length, IfOk, OnOk, OnErr, IsSome, IfSome, Contains};
+ghost use Rattle.std.specs.Prelude.{◌≡◌, ◌≢◌, List, ◌<◌, ◌≤◌, ◌^◌, [], None, Some, length, IfOk, OnOk, OnErr, IfSome, false, Contains};
 ghost use Rattle.clause_meaning.specs.Literals.{AreBelow, HaveDistinctVariables};
 ghost use Rattle.cdcl_core.specs.State.{empty_solver, AddsClause, numbers_in, value_in, without_variable, without_number};
 ghost use Rattle.cdcl_core.specs.Store.{IsAscending};
+ghost use Rattle.cdcl_core.specs.Logs.{Learned, IsWhole};
+ghost use Rattle.cdcl_core.specs.Solving.{AreAskable, Affords, Learns, LogEnds, Ends, cleared};
 
 use crate::labels::Which;
+use crate::outcome::{Budget, Outcome, SolveFault};
+use crate::proof_log::ProofLog;
+use crate::seek::{is_model, seek};
 use crate::store::Store;
 use clause_meaning::literal_of;
 use cq_terms::{Longs, NoMemory};
@@ -27,9 +32,11 @@ impl Model for Solver {
 
     ghost Value = { State };
 
-    ghost use Rattle.cdcl_core.specs.Shown.{shown};
+    ghost use Rattle.cdcl_core.specs.Shown.{shown, SolverIsKept};
 
     ghost view = { shown };
+
+    ghost invariant = { SolverIsKept };
 }
 
 impl Solver {
@@ -103,13 +110,47 @@ impl Solver {
         self.store.learned_numbers()
     }
 
-    /// The value of a variable in the model that was found: whether it is present.
-    pub fn value(&self, variable: u32) -> bool
-        requires in_range { variable < self.now.variables }
-        requires found { IsSome self.now.values }
+    /// Looks for values that satisfy the assumptions and the clauses of the scope, which are the live clauses whose variables are all in
+    /// it. Each clause that is learned on the way goes to the log first, and raises what is used of the budget by one.
+    ///
+    /// `NoMemory` may come at any time.
+    pub fn solve<L: ProofLog>(
+        &mut self,
+        scope: &[u32],
+        assume: &[u32],
+        budget: &mut Budget,
+        log: &mut L,
+    ) -> Result<Outcome, SolveFault>
+        requires askable { AreAskable self.old scope.now assume.now }
+        requires affords { Affords self.old budget.old }
+        requires whole { IsWhole (L.content log.old) }
 
-        ensures exact { IfSome self.now.values (λ values. result ≡ value_in values variable) }
+        // Each learned clause was given to the log with its number, and then became live; so was the one on which a log failed.
+        ensures learned { (entries : List Learned)
+            × Learns (cleared self.old) (cleared self.new) scope.now assume.now budget.old budget.new entries
+            × LogEnds (cleared self.new) scope.now assume.now budget.new
+            (L.content log.old) (L.content log.new) (L.faults log.old) (L.faults log.new) entries result }
+        ensures ends { IfOk result (Ends self.new scope.now assume.now budget.new) }
+
+        ensures no_values { OnErr result (self.new.values ≡ None) }
     {
+        self.found = false;
+        let outcome = seek(&mut self.store, scope, assume, budget, log)?;
+        self.found = is_model(outcome);
+        Ok(outcome)
+    }
+
+    /// The value of a variable in the model that was found: whether it is present. Where there is no model, no variable is.
+    pub fn value(&self, variable: u32) -> bool
+        ensures exact { IfSome self.now.values (λ values. result ≡ value_in values variable) }
+        ensures none { self.now.values ≡ None → result ≡ false }
+    {
+        if !self.found {
+            return false;
+        }
+        if variable >= self.store.variables() {
+            return false;
+        }
         self.store.value(variable)
     }
 }

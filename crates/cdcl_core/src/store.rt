@@ -1,18 +1,33 @@
 //! The clauses in an arena, a label for each, and the trail, which counts in how many clauses each variable stands.
 
-ghost use Rattle.std.specs.Prelude.{◌≡◌, ◌<◌, ◌≤◌, ◌^◌, ◌++◌, ◌∷◌, [], false, All, filter, length, IfOk, OnOk, OnErr, vec_len, vec_capacity};
+ghost use Rattle.std.specs.Prelude.{◌≡◌, ◌<◌, ◌≤◌, ◌-◌, ◌^◌, ◌++◌, ◌∷◌, [], ℕ, List, Some, min, true, false, All, IfErr, filter, length, IfOk, OnOk, OnErr, vec_len, vec_capacity};
 ghost use Rattle.clause_arena.specs.State.{Holds, IsLive, AreAscending, with_clause};
 ghost use Rattle.cdcl_core.specs.State.{AscendsAs, numbers_in, value_in, put_number};
 ghost use Rattle.cdcl_core.specs.Labels.{numbers_on, stays, Drops, DropsIf};
 ghost use Rattle.cdcl_core.specs.Store.{AreCounted, AreProper, IsProper, IsAscending, OnlyCounts};
 ghost use Rattle.cdcl_core.specs.Shown.{literals_on};
 ghost use Rattle.cdcl_core.specs.Changes.{AddsGiven, DropsClauses, IsSameStore, live_in};
+ghost use Rattle.clause_meaning.specs.Assignments.{IsInside, Separates};
+ghost use Rattle.cdcl_trail.specs.Fits.{IsConflict};
+ghost use Rattle.conflict_analysis.specs.Learning.{is_in};
+ghost use Rattle.conflict_analysis.specs.Searching.{IsSearching, Searched};
+ghost use Rattle.conflict_analysis.specs.Lessons.{IsLesson};
+ghost use Rattle.std.specs.List.Sorted.{IsSorted};
+ghost use Rattle.std.specs.Ordering.{nat_cmp};
+ghost use Rattle.cdcl_core.specs.Logs.{IsWhole, Appends, TearsAt, Rises};
+ghost use Rattle.cdcl_core.specs.State.{LiveIn};
+ghost use Rattle.cdcl_core.specs.Learning.{IsRefuted};
+ghost use Rattle.cdcl_core.specs.Seeking.{Seeks, StoreStops, LearnsOne, FailsOn, LogTakes, LogRefuses, bare};
 
 use crate::counts::{lower, raise};
 use crate::labels::{Label, Which};
+use crate::outcome::{LogFault, SolveFault};
+use crate::proof_log::ProofLog;
+use crate::seeking::{Stop, advance, assert_lesson, begin, lesson_of, prefer};
 use cdcl_trail::Trail;
 use clause_arena::{Arena, ClauseRef};
 use clause_meaning::literal_of;
+use conflict_analysis::Lesson;
 use cq_terms::{Longs, NoMemory};
 use std::alloc::Global;
 use std::marker::Model;
@@ -53,6 +68,13 @@ impl Store {
             trail: Trail::new(alloc, variables)?,
             next: 0,
         })
+    }
+
+    /// How many variables there are.
+    pub fn variables(&self) -> u32
+        ensures { result ≡ self.now.arena.variables }
+    {
+        self.arena.variables()
     }
 
     /// Whether the trail makes the variable present.
@@ -120,6 +142,147 @@ impl Store {
     {
         let mut none: [ClauseRef; 0] = [];
         self.arena.compact(&mut none);
+    }
+
+    /// Begins a search for values of the scope. It answers whether the units of the scope lead to no clash.
+    pub fn begin(&mut self, scope: &[u32]) -> bool
+        requires ascending { IsAscending scope.now }
+        requires in_range { All (λ v. v < self.old.arena.variables) scope.now }
+        requires separates { Separates (is_in scope.now) (LiveIn (bare self.old)) }
+
+        ensures shows { bare self.new ≡ bare self.old }
+        ensures focus { self.new.trail.focus ≡ scope.now }
+        ensures seeks { result ≡ true → (assume : List ℕ) → IsInside (is_in scope.now) assume → Seeks assume self.new.trail self.new.arena 0 }
+        ensures refuted { result ≡ false → (assume : List ℕ) → IsRefuted (bare self.new) scope.now assume }
+    {
+        begin(&mut self.trail, &self.arena, scope)
+    }
+
+    /// Goes on with a search until it ends or has a conflict above the assumptions.
+    pub fn advance(&mut self, assume: &[u32], assumed: u32) -> Stop
+        requires seeks { Seeks assume.now self.old.trail self.old.arena assumed }
+
+        ensures shows { bare self.new ≡ bare self.old }
+        ensures focus { self.new.trail.focus ≡ self.old.trail.focus }
+        ensures stops { StoreStops assume.now self.new result }
+    {
+        advance(&mut self.trail, &self.arena, assume, assumed)
+    }
+
+    /// The level of the search.
+    pub fn level(&self) -> u32
+        ensures { result ≡ self.now.trail.level }
+    {
+        self.trail.level()
+    }
+
+    /// Learns from a conflict: the clause goes to the log first, and then it is live and the search goes back.
+    pub fn learn<L: ProofLog>(&mut self, conflict: ClauseRef, log: &mut L) -> Result<(), SolveFault>
+        requires searching { IsSearching self.old.trail self.old.arena }
+        requires conflict { IsConflict self.old.trail self.old.arena conflict }
+        requires guessed { 0 < self.old.trail.level }
+        requires numbers { self.old.next < 2 ^ 64 - 1 }
+        requires whole { IsWhole (L.content log.old) }
+
+        ensures focus { OnOk result (self.new.trail.focus ≡ self.old.trail.focus) }
+        ensures seeks { OnOk result ((assume : List ℕ) (assumed : ℕ) → Seeks assume self.old.trail self.old.arena assumed
+            → Seeks assume self.new.trail self.new.arena (min assumed self.new.trail.level)) }
+        ensures learned { OnOk result (LearnsOne (bare self.old) (bare self.new) self.old.trail.focus
+            (L.content log.old) (L.content log.new) (L.faults log.old) (L.faults log.new)) }
+        ensures failed { IfErr result (FailsOn (bare self.old) (bare self.new) self.old.trail.focus
+            (L.content log.old) (L.content log.new) (L.faults log.old) (L.faults log.new)) }
+    {
+        let lesson = prepare(&mut self.arena, &mut self.labels, &self.trail, conflict)?;
+        match write_learned(log, self.next, lesson.literals.as_slice()) {
+            Ok(()) => {}
+            Err(fault) => return Err(fault),
+        }
+        commit(
+            &mut self.arena,
+            &mut self.labels,
+            &mut self.trail,
+            self.next,
+            &lesson,
+        );
+        self.next += 1;
+        Ok(())
+    }
+}
+
+/// What a conflict teaches, with room for its clause.
+fn prepare(
+    arena: &mut Arena,
+    labels: &mut Vec<Label>,
+    trail: &Trail,
+    conflict: ClauseRef,
+) -> Result<Lesson, NoMemory>
+    requires searching { IsSearching trail.now arena.old }
+    requires conflict { IsConflict trail.now arena.old conflict }
+    requires guessed { 0 < trail.now.level }
+
+    ensures lesson { IfOk result (λ lesson. IsLesson (Searched trail.now arena.old) trail.now
+        lesson.literals.items lesson.asserting lesson.back) }
+    ensures ascending { IfOk result (λ lesson. IsSorted nat_cmp lesson.literals.items) }
+    ensures spared { IfOk result (λ lesson. length lesson.literals.items ≤ arena.new.spare) }
+    ensures room { OnOk result (vec_len labels.new < vec_capacity labels.new) }
+
+    ensures same_clauses { Holds arena.old arena.new arena.old.live }
+    ensures same_labels { labels.new.items ≡ labels.old.items }
+{
+    let lesson = lesson_of(*labels.allocator(), trail, arena, conflict)?;
+    arena.reserve(lesson.literals.len())?;
+    labels.reserve(1)?;
+    Ok(lesson)
+}
+
+/// Adds the clause of a lesson, for which there is room, and goes back.
+fn commit(
+    arena: &mut Arena,
+    labels: &mut Vec<Label>,
+    trail: &mut Trail,
+    number: u64,
+    lesson: &Lesson,
+)
+    requires searching { IsSearching trail.old arena.old }
+    requires lesson { IsLesson (Searched trail.old arena.old) trail.old
+        lesson.now.literals.items lesson.now.asserting lesson.now.back }
+    requires spared { length lesson.now.literals.items ≤ arena.old.spare }
+    requires room { vec_len labels.old < vec_capacity labels.old }
+    requires same_variables { trail.old.variables ≡ arena.old.variables }
+    requires parallel { vec_len labels.old ≡ length arena.old.live }
+    requires counted { AreCounted trail.old arena.old.live }
+    requires all_proper { AreProper arena.old.variables arena.old.live }
+
+    ensures clause { (reference : ℕ) × Holds arena.old arena.new (with_clause arena.old.live reference lesson.now.literals.items) }
+    ensures label { labels.new.items ≡ labels.old.items ++ record { number = Some number; goes = false } ∷ [] }
+    ensures counted { AreCounted trail.new arena.new.live }
+    ensures variables { trail.new.variables ≡ trail.old.variables }
+    ensures focus { trail.new.focus ≡ trail.old.focus }
+    ensures seeks { (assume : List ℕ) (assumed : ℕ) → Seeks assume trail.old arena.old assumed
+        → Seeks assume trail.new arena.new (min assumed trail.new.level) }
+{
+    prefer(trail, lesson.literals.as_slice());
+    let clause = put(
+        arena,
+        labels,
+        trail,
+        Some(number),
+        lesson.literals.as_slice(),
+    );
+    assert_lesson(trail, arena, clause, lesson);
+}
+
+/// Gives a clause to a log.
+fn write_learned<L: ProofLog>(log: &mut L, number: u64, literals: &[u32]) -> Result<(), SolveFault>
+    requires whole { IsWhole (L.content log.old) }
+
+    ensures taken { OnOk result (LogTakes (L.content log.old) (L.content log.new) (L.faults log.old) (L.faults log.new) number literals.now) }
+    ensures refused { IfErr result (LogRefuses (L.content log.old) (L.content log.new) (L.faults log.old) (L.faults log.new) number literals.now) }
+{
+    match log.learned(number, literals) {
+        Ok(()) => Ok(()),
+        Err(LogFault::Failed) => Err(SolveFault::Log),
+        Err(LogFault::NoMemory) => Err(SolveFault::NoMemory),
     }
 }
 

@@ -89,16 +89,17 @@ speaks_or_not p i j = elim (cases_eq j i) [
   | inr n ↦ elim (blocks_or_not p i j) [ inl b ↦ inl (inr b) | inr m ↦ inr (λ w. elim w [ inl e ↦ n e | inr b ↦ m b ]) ]
 ]
 
-pub clause_exists : (p : Priority) → IsPriority p → (i : ℕ) → (clause : List ℕ) × IsBlockingClause p i clause
-clause_exists p h i =
-    let w = with_property (λ j. (j ≡ i) ⊎ Blocks p i j) (speaks_or_not p i) (p.facts + i + 1) in
+-- where conflicts are below a bound the clause of each fact exists
+pub clause_within : (p : Priority) (bound : ℕ) → ((i j : ℕ) → Conflict p i j → j < bound) → (i : ℕ) → (clause : List ℕ) × IsBlockingClause p i clause
+clause_within p bound within i =
+    let w = with_property (λ j. (j ≡ i) ⊎ Blocks p i j) (speaks_or_not p i) (bound + i + 1) in
     made w.0 w.1 w.2
   where
-    below : (j : ℕ) → (j ≡ i) ⊎ Blocks p i j → j < p.facts + i + 1
+    below : (j : ℕ) → (j ≡ i) ⊎ Blocks p i j → j < bound + i + 1
     below j (inl e) = omega arith
-    below j (inr b) = let l = conflict_below p h i j b.0 in omega arith
+    below j (inr b) = let l = within i j b.0 in omega arith
 
-    made : (numbers : List ℕ) → IsAscending numbers → ((j : ℕ) → Contains numbers j ↔ ((j < p.facts + i + 1) × ((j ≡ i) ⊎ Blocks p i j))) → (clause : List ℕ) × IsBlockingClause p i clause
+    made : (numbers : List ℕ) → IsAscending numbers → ((j : ℕ) → Contains numbers j ↔ ((j < bound + i + 1) × ((j ≡ i) ⊎ Blocks p i j))) → (clause : List ℕ) × IsBlockingClause p i clause
     made numbers up exact = (
       map present numbers,
       record {
@@ -109,6 +110,9 @@ clause_exists p h i =
         );
       },
     )
+
+pub clause_exists : (p : Priority) → IsPriority p → (i : ℕ) → (clause : List ℕ) × IsBlockingClause p i clause
+clause_exists p h i = clause_within p p.facts (conflict_below p h) i
 
 -- ---- the law over a set of facts that is closed under conflict
 

@@ -56,7 +56,7 @@ last_at input (line.Forget clauses) b r rs = tt
 last_at input (line.End answers brave ar iar undecided) b r rs = tt
 
 -- the options stay behind the head
-same_options : (input : Input) (x : Line) (b : List Line) → Right input b x → (b ≡ []) ⊎ ((mode_of b ≡ mode_of (x ∷ b)) × (budget_of b ≡ budget_of (x ∷ b)))
+pub same_options : (input : Input) (x : Line) (b : List Line) → Right input b x → (b ≡ []) ⊎ ((mode_of b ≡ mode_of (x ∷ b)) × (budget_of b ≡ budget_of (x ∷ b)))
 same_options input (line.Head axioms budget facts keep repairs version) b r = inl (starts_empty b r.order)
 same_options input (line.Answer brave ar iar cores names tuple) b r = inr (refl, refl)
 same_options input (line.Cq o query step) b r = inr (refl, refl)

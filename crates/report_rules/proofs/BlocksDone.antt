@@ -30,11 +30,11 @@ record IsDone (input : Input) (before : List Line) (i : ℕ) : Type 0 where
 one_form : OneQuery ≡ Session → ⊥
 one_form e = cc
 
-push_stands : (xs : List Query) (q : Query) → xs ++ q ∷ [] ≢ []
+pub push_stands : (xs : List Query) (q : Query) → xs ++ q ∷ [] ≢ []
 push_stands xs q e = Contains-nil q (subst (λ ys. Contains ys q) e (Contains-push xs q))
 
 -- the block in which the last line is stands
-last_stands : (i : ℕ) (b : List Line) → place_of b ≡ InBlock (origin.Negative i) → block_of (origin.Negative i) b ≢ []
+pub last_stands : (i : ℕ) (b : List Line) → place_of b ≡ InBlock (origin.Negative i) → block_of (origin.Negative i) b ≢ []
 last_stands i (line.Cq (origin.Negative j) q step ∷ b) e =
     let same : j ≡ i = cc in
     go (eqb i j) (eq-eqb i j (sym same))

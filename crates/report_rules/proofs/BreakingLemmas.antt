@@ -14,7 +14,7 @@ use Rattle.report_rules.specs.Broken.{Breaks, IsBrokenAt, IsAcceptedAfter, IsAcc
 use Rattle.report_rules.proofs.ListLemmas.{reverse-cons}
 
 module _ (input : Input) where
-  right_unbroken : (before : List Line) (l : Line) (r : Rule) → Right input before l → Breaks input before l r → ⊥
+  pub right_unbroken : (before : List Line) (l : Line) (r : Rule) → Right input before l → Breaks input before l r → ⊥
   right_unbroken before l r w (inl (e, n)) = n (w.order, w.query_left)
   right_unbroken before l r w (inr (o, inl (e, n))) = n w.closed
   right_unbroken before l r w (inr (o, inr (c, inl (e, n)))) = n w.complete
@@ -48,7 +48,7 @@ module _ (input : Input) where
   broken_once (Some l ∷ rest) before n m r s (inr (w, y)) (inl (b', x')) = absurd (right_unbroken before l s w b')
   broken_once (Some l ∷ rest) before n m r s (inr (w, y)) (inr (w', y')) = broken_once rest (l ∷ before) n m r s y y'
 
-  moved : (l : Line) (rest before : List Line) → reverse (l ∷ rest) ++ before ≡ reverse rest ++ (l ∷ before)
+  pub moved : (l : Line) (rest before : List Line) → reverse (l ∷ rest) ++ before ≡ reverse rest ++ (l ∷ before)
   moved l rest before = ap (λ xs. xs ++ before) (reverse-cons l rest) ∙ append_assoc (reverse rest) (l ∷ []) before
 
   accepted_right : (lines before : List Line) → AreRight input before → IsAcceptedAfter input before (map Some lines) → AreRight input (reverse lines ++ before) × (place_of (reverse lines ++ before) ≡ AtEnd)

@@ -40,7 +40,8 @@ conflict_or_not kb i j = elim (cases_lt i (length kb.facts)) [
       | inr f ↦ inr (λ c. true≢false (sym ((iff i j il jl).1 c) ∙ f))
     ]
 
-own_or_not : (kb : Knowledge) (i : ℕ) → ((i < length kb.facts) × IsSelfInconsistent kb i) ⊎ ((i < length kb.facts) × IsSelfInconsistent kb i → ⊥)
+-- a fact is self-inconsistent or isn't
+pub own_or_not : (kb : Knowledge) (i : ℕ) → ((i < length kb.facts) × IsSelfInconsistent kb i) ⊎ ((i < length kb.facts) × IsSelfInconsistent kb i → ⊥)
 own_or_not kb i = elim (cases_lt i (length kb.facts)) [
   | inr past ↦ inr (λ w. beyond past w.0)
   | inl l ↦ told l (conflicts_told kb).0 (conflicts_told kb).2.own_iff

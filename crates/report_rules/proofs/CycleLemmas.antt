@@ -31,12 +31,12 @@ all_acyclic kb zero i b = b.ranked refl
 all_acyclic kb (suc n) i (l, b, rest) = b.ranked refl
 
 -- where nothing is better, no fact is reached
-none_acyclic : (kb : Knowledge) (m : Repairs) → ((i j : ℕ) → IsBetter kb m i j → ⊥) → IsAcyclic kb m
+pub none_acyclic : (kb : Knowledge) (m : Repairs) → ((i j : ℕ) → IsBetter kb m i j → ⊥) → IsAcyclic kb m
 none_acyclic kb m h zero i b = h i i b
 none_acyclic kb m h (suc n) i (l, b, rest) = h i l b
 
 -- where all conflicts are none, nothing conflicts
-no_conflict : (kb : Knowledge) (lists : List (List ℕ)) → lists ≡ [] → AreConflictLists kb lists → (i j : ℕ) → Conflict kb i j → ⊥
+pub no_conflict : (kb : Knowledge) (lists : List (List ℕ)) → lists ≡ [] → AreConflictLists kb lists → (i j : ℕ) → Conflict kb i j → ⊥
 no_conflict kb lists e (owns, pairs, exact, same) i j c = elim (cases_lt i j) [
   | inl h ↦ nowhere i j ((exact.pairs_exact i j).1 (h, c))
   | inr h ↦ nowhere j i ((exact.pairs_exact j i).1 (less i j h c.different, Conflict-sym kb i j c))
@@ -123,7 +123,7 @@ conflicts_complete input (line.Answer _ _ _ _ _ _ ∷ b) r e = absurd (cc)
 conflicts_complete input [] r e = absurd (cc)
 
 -- accepted pieces are all lines
-all_lines : (input : Input) (before : List Line) (pieces : List (Option Line)) → IsAcceptedAfter input before pieces → map Some (lines_of pieces) ≡ pieces
+pub all_lines : (input : Input) (before : List Line) (pieces : List (Option Line)) → IsAcceptedAfter input before pieces → map Some (lines_of pieces) ≡ pieces
 all_lines input before [] a = refl
 all_lines input before (None ∷ pieces) a = absurd a
 all_lines input before (Some l ∷ pieces) (r, a) = ap (λ xs. Some l ∷ xs) (all_lines input (l ∷ before) pieces a)

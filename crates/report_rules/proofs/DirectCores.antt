@@ -1,6 +1,7 @@
 -- In mode `all` each consistent list has a direct core, and a fact in no conflict has its present literal as a base clause.
 use Rattle.std.proofs.Common.{ℕ, ◌<◌, ◌⊎◌, inl, inr, List, [], ◌∷◌, length, Contains, IsTrue, refl, sym, subst, ap, ◌∙◌, arith}
-use Rattle.cq_terms.specs.declared.facts.Repairs.TheVariants as mode
+use Rattle.cq_terms.specs.declared.facts.Repairs.{Repairs}
+use Rattle.cq_terms.specs.declared.facts.Repairs.TheVariants as modes
 use Rattle.cq_terms.specs.Knowledge.{Knowledge}
 use Rattle.cq_meaning.specs.Conflicts.{Only, In, AreConsistent, Conflict, IsSelfInconsistent}
 use Rattle.cq_meaning.specs.Repairs.{IsBetter}
@@ -12,7 +13,7 @@ use Rattle.cq_meaning.proofs.Listed.{all_or_some}
 use Rattle.priority_graph.specs.Split.{has}
 use Rattle.priority_graph.specs.Inputs.{AreRivals}
 use Rattle.priority_graph.proofs.SplitLemmas.{has_true, has_there}
-use Rattle.repair_encoder.specs.BaseClauses.{present}
+use Rattle.repair_encoder.specs.BaseClauses.{present, absent}
 use Rattle.report_rules.specs.Clauses.{IsBaseClause}
 use Rattle.report_rules.specs.TryRules.{HasDirectCore}
 use Rattle.report_rules.proofs.ListLemmas.{only_one}
@@ -39,7 +40,7 @@ module _ (kb : Knowledge) (facts : List ℕ) (within : (i : ℕ) → Contains fa
       (w.0, λ j. ((λ m. ((w.2 j).0 m).1), (λ (i, m, c). (w.2 j).1 (Conflict-within kb j i (Conflict-sym kb i j c), (i, m, c)))))
 
   -- in mode `all` a consistent list has a direct core
-  pub direct_in_all : AreConsistent kb (Contains facts) → HasDirectCore kb mode.All facts
+  pub direct_in_all : AreConsistent kb (Contains facts) → HasDirectCore kb modes.All facts
   direct_in_all c = (
     rivals.0,
     rivals.1,
@@ -50,16 +51,16 @@ module _ (kb : Knowledge) (facts : List ℕ) (within : (i : ℕ) → Contains fa
     },
   )
     where
-      blocked : (j : ℕ) → IsRival kb facts j → IsSelfInconsistent kb j ⊎ ((i : ℕ) × (i < length kb.facts) × IsTrue (has facts i) × Conflict kb j i × ¬ IsBetter kb mode.All j i)
+      blocked : (j : ℕ) → IsRival kb facts j → IsSelfInconsistent kb j ⊎ ((i : ℕ) × (i < length kb.facts) × IsTrue (has facts i) × Conflict kb j i × ¬ IsBetter kb modes.All j i)
       blocked j (i, m, w) = inr (i, within i m, has_true facts i m, Conflict-sym kb i j w, λ b. b.ranked refl)
 
--- ---- a fact in no conflict is present
+-- ---- a fact in no conflict has a unit base clause
 
--- its present literal is a base clause
-pub base_present : (kb : Knowledge) (i : ℕ) → i < length kb.facts → AreConsistent kb (Only i) → ((j : ℕ) → Conflict kb i j → ⊥) → IsBaseClause kb mode.All (present i ∷ [])
-base_present kb i il alone none =
-    let (p, of) = priority_exists kb mode.All in
-    let m = means kb mode.All p of in
+-- it is present where it is consistent alone
+pub base_present : (kb : Knowledge) (mode : Repairs) (i : ℕ) → i < length kb.facts → AreConsistent kb (Only i) → ((j : ℕ) → Conflict kb i j → ⊥) → IsBaseClause kb mode (present i ∷ [])
+base_present kb mode i il alone none =
+    let (p, of) = priority_exists kb mode in
+    let m = means kb mode p of in
     let below : i < p.facts = subst (λ n. i < n) (sym of.facts) il in
     let free : ¬ Contains p.own i = λ o. ((m.own i).0 o).1 alone in (
       p,
@@ -82,3 +83,9 @@ base_present kb i il alone none =
   where
     past : (a b : ℕ) → a < b → b < 1 → ⊥
     past a b k l = omega arith
+
+-- and absent where it is self-inconsistent
+pub base_absent : (kb : Knowledge) (mode : Repairs) (i : ℕ) → i < length kb.facts → IsSelfInconsistent kb i → IsBaseClause kb mode (absent i ∷ [])
+base_absent kb mode i il own =
+    let (p, of) = priority_exists kb mode in
+    (p, of, inr (i, subst (λ n. i < n) (sym of.facts) il, inl (((means kb mode p of).own i).1 (il, own), refl)))

@@ -1,10 +1,11 @@
--- Each live clause is true of every chosen repair.
+-- The clauses and cores of one open answer: what is true of every chosen repair, and what the answer leaves.
 use Rattle.std.proofs.Common.{◌≡◌, ℕ, ◌<◌, ◌≤◌, ◌+◌, ◌⊎◌, inl, inr, List, [], ◌∷◌, ◌++◌, length, Contains, Bool, true, false, not, ◌||◌, true≢false, refl, sym, subst, ap, ◌∙◌, arith}
 use Rattle.std.specs.Prelude.{nat_lt}
 use Rattle.std.proofs.lemmas.Bool.{cases_Bool, cases_lt, ltb-true}
 use Rattle.std.proofs.lemmas.List.Elements.{Contains-push, Contains-push_cases, Contains-append_left}
+use Rattle.cq_terms.specs.declared.facts.Repairs.{Repairs}
 use Rattle.cq_meaning.specs.Conflicts.{In, AreConsistent, FactsEntail}
-use Rattle.cq_meaning.specs.Candidates.{AreCauses}
+use Rattle.cq_meaning.specs.Cores.{IsCore}
 use Rattle.cq_meaning.specs.Repairs.{IsChosen}
 use Rattle.cq_meaning.proofs.Members.{Contains-cases, Contains-nil}
 use Rattle.clause_meaning.specs.Literals.{variable_of}
@@ -16,18 +17,19 @@ use Rattle.repair_encoder.specs.BaseClauses.{absent}
 use Rattle.repair_encoder.specs.CauseClauses.{cause_clause}
 use Rattle.report_text.specs.declared.line.Line.{Line}
 use Rattle.report_text.specs.declared.line.Line.TheVariants as line
+use Rattle.report_text.specs.declared.line.Verdict.{Verdict}
 use Rattle.report_rules.specs.Inputs.{Input, selector_of}
-use Rattle.report_rules.specs.Order.{place_of, is_answering, is_open}
+use Rattle.report_rules.specs.Clauses.{IsBaseClause, IsCauseClause}
+use Rattle.report_rules.specs.Order.{is_open}
 use Rattle.report_rules.specs.Told.{query_of, mode_of}
-use Rattle.report_rules.specs.Tries.{asked}
-use Rattle.report_rules.specs.Live.{Learned, learned, has_selector, Live}
-use Rattle.report_rules.specs.Accepted.{AreRight}
+use Rattle.report_rules.specs.Tries.{Asked, asked}
+use Rattle.report_rules.specs.Live.{Learned, learned, has_selector, IsLearned, Live}
 use Rattle.report_rules.specs.Readings.{Reads}
+use Rattle.report_rules.specs.OpenAnswers.{start_of, IsRightAnswer, IsInPlace, HoldInChosen, LearnedHold, CoresHold}
 use Rattle.report_rules.proofs.ListLemmas.{Contains-filter}
 use Rattle.report_rules.proofs.LiteralLemmas.{absent_true}
 use Rattle.report_rules.proofs.BaseClauseLemmas.{base_true, agree_chosen}
 use Rattle.report_rules.proofs.CauseLemmas.{Has, Misses, has_or_misses, misses_or_has, listed_within, cause_entails, entails_cause}
-use Rattle.report_rules.proofs.PlaceLemmas.{block_closed, over_closed, between_closed, ask_closed, starts_empty, asked_right}
 
 -- ---- readings
 
@@ -36,10 +38,10 @@ pick (inl h) a b = a
 pick (inr h) a b = b
 
 -- the numbers below n as in R, and all others as b
-reading : ℕ → (ℕ → Bool) → Bool → ℕ → Bool
+pub reading : ℕ → (ℕ → Bool) → Bool → ℕ → Bool
 reading n R b i = pick (cases_lt i n) (R i) b
 
-reading_fact : (n : ℕ) (R : ℕ → Bool) (b : Bool) (i : ℕ) → i < n → reading n R b i ≡ R i
+pub reading_fact : (n : ℕ) (R : ℕ → Bool) (b : Bool) (i : ℕ) → i < n → reading n R b i ≡ R i
 unfolding reading pick
 reading_fact n R b i l = go (cases_lt i n)
   where
@@ -47,7 +49,7 @@ reading_fact n R b i l = go (cases_lt i n)
     go (inl h) = refl
     go (inr h) = absurd (omega arith)
 
-reading_selector : (n : ℕ) (R : ℕ → Bool) (b : Bool) (c : ℕ) → reading n R b (n + c) ≡ b
+pub reading_selector : (n : ℕ) (R : ℕ → Bool) (b : Bool) (c : ℕ) → reading n R b (n + c) ≡ b
 unfolding reading pick
 reading_selector n R b c = go (cases_lt (n + c) n)
   where
@@ -56,7 +58,7 @@ reading_selector n R b c = go (cases_lt (n + c) n)
     go (inr h) = refl
 
 -- a clause without a selector has facts alone
-on_facts : (n : ℕ) (clause : List ℕ) → not (has_selector n clause) ≡ true → (l : ℕ) → Contains clause l → variable_of l < n
+pub on_facts : (n : ℕ) (clause : List ℕ) → not (has_selector n clause) ≡ true → (l : ℕ) → Contains clause l → variable_of l < n
 on_facts n [] e l m = absurd (Contains-nil l m)
 on_facts n (x ∷ clause) e l m =
     let w = split (nat_lt (variable_of x) n) (has_selector n clause) e in
@@ -67,27 +69,29 @@ on_facts n (x ∷ clause) e l m =
     split false b e = absurd (true≢false (sym e))
 
 -- the clause of a cause has the absent selector, and the absent literal of each fact
-selector_in : (selector : ℕ) (cause : List ℕ) → Contains (cause_clause selector cause) (absent selector)
+pub selector_in : (selector : ℕ) (cause : List ℕ) → Contains (cause_clause selector cause) (absent selector)
 selector_in selector cause = Contains-map absent (cause ++ selector ∷ []) selector (Contains-push cause selector)
 
 fact_in : (selector : ℕ) (cause : List ℕ) (i : ℕ) → Contains cause i → Contains (cause_clause selector cause) (absent i)
 fact_in selector cause i m = Contains-map absent (cause ++ selector ∷ []) i (Contains-append_left cause (selector ∷ []) i m)
 
+-- whether it is a core line
+abbrev pub is_core : Line → Bool
+is_core (line.Core number kept dropped) = true
+is_core _ = false
+
 module _ (input : Input) where
   -- some assignment reads a chosen repair; where the selector is false, the repair entails the tuple
-  pub reading_exists : (before : List Line) → AreRight input before → is_open before ≡ true → (R : ℕ → Bool) → AreConsistent input.kb (In R)
+  pub reading_exists : (before : List Line) → IsInPlace input before → (R : ℕ → Bool) → AreConsistent input.kb (In R)
       → (v : ℕ → Bool) × Reads input before R v × (v (selector_of input.kb (asked before).candidate) ≡ false → FactsEntail input.kb (In R) (query_of input before) (asked before).tuple)
-  reading_exists before r o R c = go (misses_or_has R (asked before).causes)
+  reading_exists before w R c = go (misses_or_has R (asked before).causes)
     where
-      causes_are : AreCauses input.kb (query_of input before) (asked before).tuple (asked before).causes
-      causes_are = (asked_right input before r o).causes_are
-
       there : (cause : List ℕ) → Contains (asked before).causes cause → Has R cause → FactsEntail input.kb (In R) (query_of input before) (asked before).tuple
-      there cause m h = cause_entails input.kb (query_of input before) (asked before).tuple (asked before).causes causes_are cause m (In R) h
+      there cause m h = cause_entails input.kb (query_of input before) (asked before).tuple (asked before).causes w.causes_are cause m (In R) h
 
       none : ((cause : List ℕ) → Contains (asked before).causes cause → Misses R cause) → ¬ FactsEntail input.kb (In R) (query_of input before) (asked before).tuple
       none miss e =
-          let (cause, m, h) = entails_cause input.kb (query_of input before) (asked before).tuple (asked before).causes causes_are (In R) c e in
+          let (cause, m, h) = entails_cause input.kb (query_of input before) (asked before).tuple (asked before).causes w.causes_are (In R) c e in
           let (i, k, f) = miss cause m in
           true≢false (sym (h i k) ∙ f)
 
@@ -110,67 +114,167 @@ module _ (input : Input) where
         (λ f. there cause m h),
       )
 
-  -- a reading where no answer is open
-  reads_closed : (before : List Line) (R v : ℕ → Bool) → is_open before ≡ false → ((i : ℕ) → i < length input.kb.facts → v i ≡ R i) → Reads input before R v
-  reads_closed before R v f a = record { facts = a; selector = λ t. absurd (true≢false (sym t ∙ f)) }
-
-  -- the clause of a cause is true of every reading
-  cause_true : (before : List Line) → AreRight input before → is_open before ≡ true → (R v : ℕ → Bool) → Reads input before R v → (cause : List ℕ) → Contains (asked before).causes cause
-      → Satisfies v (cause_clause (selector_of input.kb (asked before).candidate) cause)
-  cause_true before r o R v w cause m = go (cases_Bool (v sel)) (has_or_misses v cause)
+  -- the clauses of the causes are true of every reading
+  causes_true : (before : List Line) → is_open before ≡ true → IsInPlace input before → (R v : ℕ → Bool) → Reads input before R v
+      → SatisfiesAll v (IsCauseClause (selector_of input.kb (asked before).candidate) (asked before).causes)
+  causes_true before o p R v w clause (cause, m, e) = subst (Satisfies v) (sym e) (go (cases_Bool (v sel)) (has_or_misses v cause))
     where
       sel : ℕ
       sel = selector_of input.kb (asked before).candidate
 
-      causes_are : AreCauses input.kb (query_of input before) (asked before).tuple (asked before).causes
-      causes_are = (asked_right input before r o).causes_are
-
       within : (i : ℕ) → Contains cause i → i < length input.kb.facts
-      within = listed_within input.kb (query_of input before) (asked before).tuple (asked before).causes causes_are cause m
+      within = listed_within input.kb (query_of input before) (asked before).tuple (asked before).causes p.causes_are cause m
 
       entails : Has v cause → FactsEntail input.kb (In R) (query_of input before) (asked before).tuple
-      entails h = cause_entails input.kb (query_of input before) (asked before).tuple (asked before).causes causes_are cause m (In R) (λ i k. sym (w.facts i (within i k)) ∙ h i k)
+      entails h = cause_entails input.kb (query_of input before) (asked before).tuple (asked before).causes p.causes_are cause m (In R) (λ i k. sym (w.facts i (within i k)) ∙ h i k)
 
       go : (v sel ≡ true) ⊎ (v sel ≡ false) → Has v cause ⊎ Misses v cause → Satisfies v (cause_clause sel cause)
       go (inr f) s = (absent sel, selector_in sel cause, absent_true v sel f)
       go (inl t) (inr (i, k, f)) = (absent i, fact_in sel cause i k, absent_true v i f)
       go (inl t) (inl h) = absurd ((w.selector o).0 t (entails h))
 
-  -- the live clauses are true where the learned ones are
-  live_of : (before : List Line) → AreRight input before → (R : ℕ → Bool) → IsChosen input.kb (mode_of before) R → (v : ℕ → Bool) → Reads input before R v
-      → ((e : Learned) → Contains (learned (length input.kb.facts) before) e → Satisfies v e.clause) → SatisfiesAll v (Live input.kb before)
-  live_of before r R c v w h clause (inl base) = base_true input.kb (mode_of before) v (agree_chosen input.kb (mode_of before) R v w.facts c) clause base
-  live_of before r R c v w h clause (inr (inl (o, (cause, m, e)))) = subst (Satisfies v) (sym e) (cause_true before r o R v w cause m)
-  live_of before r R c v w h clause (inr (inr (number, m))) = h (record { number = number; clause = clause }) m
+  -- they are true where the selector is false, whatever the causes are
+  causes_passed : (a : Asked) (v : ℕ → Bool) → v (selector_of input.kb a.candidate) ≡ false → SatisfiesAll v (IsCauseClause (selector_of input.kb a.candidate) a.causes)
+  causes_passed a v f clause (cause, m, e) = subst (Satisfies v) (sym e) (absent (selector_of input.kb a.candidate), selector_in (selector_of input.kb a.candidate) cause, absent_true v (selector_of input.kb a.candidate) f)
 
-  -- each learned clause that lives is true
-  learned_true : (before : List Line) → AreRight input before → (R : ℕ → Bool) → IsChosen input.kb (mode_of before) R → (v : ℕ → Bool) → Reads input before R v
-      → (e : Learned) → Contains (learned (length input.kb.facts) before) e → Satisfies v e.clause
-  learned_true [] r R c v w e m = absurd (Contains-nil e m)
-  learned_true (line.Head axioms budget facts keep repairs version ∷ b) (r, rs) R c v w e m = absurd (Contains-nil e (subst (λ x. Contains (learned (length input.kb.facts) x) e) (starts_empty b r.order) m))
-  learned_true (line.Cq o query step ∷ b) (r, rs) R c v w e m = learned_true b rs R c v (reads_closed b R v (block_closed input.form input.kb.axioms (place_of b) o r.order) w.facts) e m
-  learned_true (line.Conflict facts rule member ∷ b) (r, rs) R c v w e m = learned_true b rs R c v (reads_closed b R v (over_closed input.form input.kb.axioms (place_of b) r.order) w.facts) e m
-  learned_true (line.Ask candidate tuple causes members ∷ b) (r, rs) R c v w e m = learned_true b rs R c v (reads_closed b R v (ask_closed input.form input.kb.axioms (place_of b) r.order) w.facts) e m
-  learned_true (line.Try question assume ∷ b) (r, rs) R c v w e m = learned_true b rs R c v (record { facts = w.facts; selector = λ o. w.selector refl }) e m
-  learned_true (line.Learn number clause ∷ b) (r, rs) R c v w e m =
-      let w' : Reads input b R v = record { facts = w.facts; selector = λ o. w.selector refl } in
-      let before_true = learned_true b rs R c v w' in
-      elim (Contains-push_cases (learned (length input.kb.facts) b) (record { number = number; clause = clause }) e m) [
-        | inl old ↦ before_true e old
-        | inr new ↦ subst (λ (x : Learned). Satisfies v x.clause) new (following_is_true (Live input.kb b) clause r.own.follows v (live_of b rs R c v w' before_true))
+  -- an assignment that satisfies all that an open answer starts with: base clauses, clauses of causes, learned ones
+  abbrev pub SatisfiesStart : List Line → (ℕ → Bool) → Type 0
+  SatisfiesStart before v = SatisfiesAll v (IsBaseClause input.kb (mode_of before))
+      × SatisfiesAll v (IsCauseClause (selector_of input.kb (asked before).candidate) (asked before).causes)
+      × SatisfiesAll v (IsLearned input.kb (start_of before))
+
+  live_from : (before : List Line) (v : ℕ → Bool) → SatisfiesStart before v → SatisfiesAll v (IsLearned input.kb before) → SatisfiesAll v (Live input.kb before)
+  live_from before v w h clause (inl base) = w.0 clause base
+  live_from before v w h clause (inr (inl (o, c))) = w.1 clause c
+  live_from before v w h clause (inr (inr m)) = h clause m
+
+  -- satisfies what the answer learns
+  learned_from : (before : List Line) → IsRightAnswer input before → (v : ℕ → Bool) → SatisfiesStart before v → SatisfiesAll v (IsLearned input.kb before)
+  learned_from [] r v w = absurd r
+  learned_from (line.Ask candidate tuple causes members ∷ b) r v w = w.2
+  learned_from (line.Try question assume ∷ b) (r, rs) v w = learned_from b rs v w
+  learned_from (line.Core number kept dropped ∷ b) (r, rs) v w = learned_from b rs v w
+  learned_from (line.Done how core ∷ b) (r, rs) v w = learned_from b rs v w
+  learned_from (line.Learn number clause ∷ b) (r, rs) v w = added (learned_from b rs v w)
+    where
+      added : SatisfiesAll v (IsLearned input.kb b) → SatisfiesAll v (IsLearned input.kb (line.Learn number clause ∷ b))
+      added h c (n, m) = elim (Contains-push_cases (learned (length input.kb.facts) b) (record { number = number; clause = clause }) (record { number = n; clause = c }) m) [
+        | inl old ↦ h c (n, old)
+        | inr new ↦ subst (Satisfies v) (ap (λ (e : Learned). e.clause) new) (following_is_true (Live input.kb b) clause r.own.follows v (live_from b v w h))
       ]
-  learned_true (line.Core number kept dropped ∷ b) (r, rs) R c v w e m = learned_true b rs R c v (record { facts = w.facts; selector = λ o. w.selector refl }) e m
-  learned_true (line.Done how core ∷ b) (r, rs) R c v w e m = learned_true b rs R c v (record { facts = w.facts; selector = λ o. w.selector refl }) e m
-  learned_true (line.Forget clauses ∷ b) (r, rs) R c v w e m =
-      learned_true b rs R c v (reads_closed b R v (between_closed input.form input.kb.axioms (place_of b) r.order) w.facts) e (Contains-filter (λ x. not (has clauses x.number)) (learned (length input.kb.facts) b) e m).0
-  learned_true (line.Answer brave ar iar cores names tuple ∷ b) (r, rs) R c v w e m =
-      let k = Contains-filter (λ x. not (has_selector (length input.kb.facts) x.clause)) (learned (length input.kb.facts) b) e m in
-      let u = reading_exists b rs (ap is_answering r.order) R c.repair.consistent in
-      let t = learned_true b rs R c u.0 u.1 e k.0 in
-      let below = on_facts (length input.kb.facts) e.clause k.1 t.0 t.1 in
-      (t.0, t.1, w.facts (variable_of t.0) below ∙ (sym (u.1.facts (variable_of t.0) below) ∙ t.2))
-  learned_true (line.End answers brave ar iar undecided ∷ b) (r, rs) R c v w e m = learned_true b rs R c v (reads_closed b R v (between_closed input.form input.kb.axioms (place_of b) r.order) w.facts) e m
+  learned_from (line.Head axioms budget facts keep repairs version ∷ b) (r, rs) v w = absurd r.own
+  learned_from (line.Cq o query step ∷ b) (r, rs) v w = absurd r.own
+  learned_from (line.Conflict facts rule member ∷ b) (r, rs) v w = absurd r.own
+  learned_from (line.Forget clauses ∷ b) (r, rs) v w = absurd r.own
+  learned_from (line.Answer brave ar iar cores names tuple ∷ b) (r, rs) v w = absurd r.own
+  learned_from (line.End answers brave ar iar undecided ∷ b) (r, rs) v w = absurd r.own
 
-  -- each live clause is true of every chosen repair
-  pub live_true : (before : List Line) → AreRight input before → (R : ℕ → Bool) → IsChosen input.kb (mode_of before) R → (v : ℕ → Bool) → Reads input before R v → SatisfiesAll v (Live input.kb before)
-  live_true before r R c v w = live_of before r R c v w (learned_true before r R c v w)
+  -- and all that lives
+  pub satisfies_live : (before : List Line) → IsRightAnswer input before → (v : ℕ → Bool) → SatisfiesStart before v → SatisfiesAll v (Live input.kb before)
+  satisfies_live before r v w = live_from before v w (learned_from before r v w)
+
+  -- in an open answer the options are those of its start
+  pub start_mode : (before : List Line) → IsRightAnswer input before → mode_of (start_of before) ≡ mode_of before
+  start_mode [] r = absurd r
+  start_mode (line.Ask candidate tuple causes members ∷ b) r = refl
+  start_mode (line.Try question assume ∷ b) (r, rs) = start_mode b rs
+  start_mode (line.Learn number clause ∷ b) (r, rs) = start_mode b rs
+  start_mode (line.Core number kept dropped ∷ b) (r, rs) = start_mode b rs
+  start_mode (line.Done how core ∷ b) (r, rs) = start_mode b rs
+  start_mode (line.Head axioms budget facts keep repairs version ∷ b) (r, rs) = absurd r.own
+  start_mode (line.Cq o query step ∷ b) (r, rs) = absurd r.own
+  start_mode (line.Conflict facts rule member ∷ b) (r, rs) = absurd r.own
+  start_mode (line.Forget clauses ∷ b) (r, rs) = absurd r.own
+  start_mode (line.Answer brave ar iar cores names tuple ∷ b) (r, rs) = absurd r.own
+  start_mode (line.End answers brave ar iar undecided ∷ b) (r, rs) = absurd r.own
+
+  -- and the answer is open
+  pub answer_open : (before : List Line) → IsRightAnswer input before → is_open before ≡ true
+  answer_open [] r = absurd r
+  answer_open (line.Ask candidate tuple causes members ∷ b) r = refl
+  answer_open (line.Try question assume ∷ b) (r, rs) = refl
+  answer_open (line.Learn number clause ∷ b) (r, rs) = refl
+  answer_open (line.Core number kept dropped ∷ b) (r, rs) = refl
+  answer_open (line.Done how core ∷ b) (r, rs) = refl
+  answer_open (line.Head axioms budget facts keep repairs version ∷ b) (r, rs) = absurd r.own
+  answer_open (line.Cq o query step ∷ b) (r, rs) = absurd r.own
+  answer_open (line.Conflict facts rule member ∷ b) (r, rs) = absurd r.own
+  answer_open (line.Forget clauses ∷ b) (r, rs) = absurd r.own
+  answer_open (line.Answer brave ar iar cores names tuple ∷ b) (r, rs) = absurd r.own
+  answer_open (line.End answers brave ar iar undecided ∷ b) (r, rs) = absurd r.own
+
+  -- an assignment that agrees with a chosen repair on the facts satisfies the base clauses, and what the answer starts with
+  pub base_of : (mode : Repairs) (R v : ℕ → Bool) → IsChosen input.kb mode R → ((i : ℕ) → i < length input.kb.facts → v i ≡ R i) → SatisfiesAll v (IsBaseClause input.kb mode)
+  base_of mode R v c a = base_true input.kb mode v (agree_chosen input.kb mode R v a c)
+
+  held_at : (before : List Line) → IsRightAnswer input before → LearnedHold input (start_of before) → HoldInChosen input.kb (mode_of before) (IsLearned input.kb (start_of before))
+  held_at before r h = subst (λ m. HoldInChosen input.kb m (IsLearned input.kb (start_of before))) (start_mode before r) h
+
+  -- a reading of a chosen repair satisfies what an answer in place starts with
+  pub reading_starts : (before : List Line) → IsRightAnswer input before → IsInPlace input before → LearnedHold input (start_of before)
+      → (R v : ℕ → Bool) → IsChosen input.kb (mode_of before) R → Reads input before R v → SatisfiesStart before v
+  reading_starts before r p h R v c w = (base_of (mode_of before) R v c w.facts, causes_true before (answer_open before r) p R v w, held_at before r h R v c w.facts)
+
+  -- so does, in place or not, the reading in which the selector is false
+  pub passing_starts : (before : List Line) → IsRightAnswer input before → LearnedHold input (start_of before)
+      → (R v : ℕ → Bool) → IsChosen input.kb (mode_of before) R → ((i : ℕ) → i < length input.kb.facts → v i ≡ R i) → v (selector_of input.kb (asked before).candidate) ≡ false → SatisfiesStart before v
+  passing_starts before r h R v c a f = (base_of (mode_of before) R v c a, causes_passed (asked before) v f, held_at before r h R v c a)
+
+  -- each live clause of an open answer is true of every chosen repair
+  pub open_true : (before : List Line) → IsRightAnswer input before → IsInPlace input before → LearnedHold input (start_of before)
+      → (R v : ℕ → Bool) → IsChosen input.kb (mode_of before) R → Reads input before R v → SatisfiesAll v (Live input.kb before)
+  open_true before r p h R v c w = satisfies_live before r v (reading_starts before r p h R v c w)
+
+  -- ---- what an answer leaves
+
+  -- the learned clauses without the selector are true of every chosen repair, in place or not
+  pub left_hold : (before : List Line) → IsRightAnswer input before → LearnedHold input (start_of before)
+      → HoldInChosen input.kb (mode_of before) (λ clause. IsLearned input.kb before clause × (not (has_selector (length input.kb.facts) clause) ≡ true))
+  left_hold before r h R v c a clause (m, k) =
+      let u : ℕ → Bool = reading (length input.kb.facts) R false in
+      let same : (i : ℕ) → i < length input.kb.facts → u i ≡ R i = reading_fact (length input.kb.facts) R false in
+      let t = learned_from before r u (passing_starts before r h R u c same (reading_selector (length input.kb.facts) R false (asked before).candidate)) clause m in
+      let below = on_facts (length input.kb.facts) clause k t.0 t.1 in
+      (t.0, t.1, a (variable_of t.0) below ∙ (sym (same (variable_of t.0) below) ∙ t.2))
+
+  pub answer_keeps : (before : List Line) → IsRightAnswer input before → LearnedHold input (start_of before)
+      → (brave ar iar : Verdict) (cores : List ℕ) (names : List (List ℕ)) (tuple : List ℕ) → LearnedHold input (line.Answer brave ar iar cores names tuple ∷ before)
+  answer_keeps before r h brave ar iar cores names tuple R v c a clause (n, m) =
+      let k = Contains-filter (λ x. not (has_selector (length input.kb.facts) x.clause)) (learned (length input.kb.facts) before) (record { number = n; clause = clause }) m in
+      left_hold before r h R v c a clause ((n, k.0), k.1)
+
+  -- ---- cores
+
+  -- a line of another kind adds none
+  pub cores_more : (x : Line) (b : List Line) → is_core x ≡ false → mode_of (x ∷ b) ≡ mode_of b → CoresHold input b → CoresHold input (x ∷ b)
+  cores_more x b f e h n kept dropped m = elim (Contains-cases x b (line.Core n kept dropped) m) [
+    | inl s ↦ absurd (true≢false (sym (ap is_core s) ∙ f))
+    | inr l ↦ subst (λ z. IsCore input.kb z (has kept) (has dropped)) (sym e) (h n kept dropped l)
+  ]
+
+  -- a right core line is one
+  core_more : (b : List Line) (number : ℕ) (kept dropped : List ℕ) → IsCore input.kb (mode_of b) (has kept) (has dropped) → CoresHold input b → CoresHold input (line.Core number kept dropped ∷ b)
+  core_more b number kept' dropped' core h n kept dropped m = elim (Contains-cases (line.Core number kept' dropped') b (line.Core n kept dropped) m) [
+    | inl e ↦ (let same_kept : kept' ≡ kept = cc in
+        let same_dropped : dropped' ≡ dropped = cc in
+        subst (λ d. IsCore input.kb (mode_of b) (has kept) (has d)) same_dropped
+        (subst (λ k. IsCore input.kb (mode_of b) (has k) (has dropped')) same_kept core))
+    | inr l ↦ h n kept dropped l
+  ]
+
+  pub open_cores : (before : List Line) → IsRightAnswer input before → CoresHold input (start_of before) → CoresHold input before
+  open_cores [] r h = absurd r
+  open_cores (line.Ask candidate tuple causes members ∷ b) r h = cores_more _ b refl refl h
+  open_cores (line.Try question assume ∷ b) (r, rs) h = cores_more _ b refl refl (open_cores b rs h)
+  open_cores (line.Learn number clause ∷ b) (r, rs) h = cores_more _ b refl refl (open_cores b rs h)
+  open_cores (line.Done how core ∷ b) (r, rs) h = cores_more _ b refl refl (open_cores b rs h)
+  open_cores (line.Core number kept dropped ∷ b) (r, rs) h = core_more b number kept dropped r.own.core (open_cores b rs h)
+  open_cores (line.Head axioms budget facts keep repairs version ∷ b) (r, rs) h = absurd r.own
+  open_cores (line.Cq o query step ∷ b) (r, rs) h = absurd r.own
+  open_cores (line.Conflict facts rule member ∷ b) (r, rs) h = absurd r.own
+  open_cores (line.Forget clauses ∷ b) (r, rs) h = absurd r.own
+  open_cores (line.Answer brave ar iar cores names tuple ∷ b) (r, rs) h = absurd r.own
+  open_cores (line.End answers brave ar iar undecided ∷ b) (r, rs) h = absurd r.own
+
+  pub answer_cores : (before : List Line) → CoresHold input before → (brave ar iar : Verdict) (cores : List ℕ) (names : List (List ℕ)) (tuple : List ℕ) → CoresHold input (line.Answer brave ar iar cores names tuple ∷ before)
+  answer_cores before h brave ar iar cores names tuple = cores_more _ before refl refl h

@@ -3,7 +3,7 @@ use Rattle.std.proofs.Common.{◌≡◌, ◌⊎◌, inl, inr, List, [], ◌∷�
 use Rattle.std.proofs.lemmas.List.Elements.{All-contains, Contains-append_right}
 use Rattle.cq_terms.specs.declared.axioms.Axiom.{Axiom}
 use Rattle.cq_meaning.specs.Conflicts.{FactsEntail}
-use Rattle.cq_meaning.specs.Candidates.{Every, AreCauses}
+use Rattle.cq_meaning.specs.Candidates.{Every}
 use Rattle.cq_meaning.proofs.Members.{Contains-head}
 use Rattle.report_text.specs.declared.line.Line.{Line}
 use Rattle.report_text.specs.declared.line.Line.TheVariants as line
@@ -14,8 +14,8 @@ use Rattle.report_rules.specs.declared.place.Place.TheVariants.{AtStart, AfterHe
 use Rattle.report_rules.specs.Inputs.{Input, Form, OneQuery, Session}
 use Rattle.report_rules.specs.Order.{place_of, is_answering, is_open, MayHaveBlock, AreBlocksOver, IsBetweenAnswers}
 use Rattle.report_rules.specs.Told.{query_of}
-use Rattle.report_rules.specs.Tries.{asked}
 use Rattle.report_rules.specs.Accepted.{AreRight}
+use Rattle.report_rules.specs.OpenAnswers.{IsInPlace}
 
 -- no answer is open where the blocks are over
 pub over_closed : (form : Form) (axioms : List Axiom) (p : Place) → AreBlocksOver form axioms p → is_answering p ≡ false
@@ -68,13 +68,8 @@ starts_empty (line.Forget clauses ∷ b) e = absurd (cc)
 starts_empty (line.Answer brave ar iar cores names tuple ∷ b) e = absurd (cc)
 starts_empty (line.End answers brave ar iar undecided ∷ b) e = absurd (cc)
 
--- what an `ask` line tells is so
-pub record IsAsked (input : Input) (before : List Line) : Type 0 where
-  pub entailed : FactsEntail input.kb Every (query_of input before) (asked before).tuple
-  pub causes_are : AreCauses input.kb (query_of input before) (asked before).tuple (asked before).causes
-
--- in an open answer the candidate was asked rightly
-pub asked_right : (input : Input) (before : List Line) → AreRight input before → is_open before ≡ true → IsAsked input before
+-- in an open answer after right lines the candidate is in place
+pub asked_right : (input : Input) (before : List Line) → AreRight input before → is_open before ≡ true → IsInPlace input before
 asked_right input (line.Ask candidate tuple causes members ∷ b) (r, rs) o = record {
   entailed = let w = r.own.next in All-contains (FactsEntail input.kb Every (query_of input b)) _ tuple w.1.entailed (Contains-append_right _ (tuple ∷ w.0) tuple (Contains-head tuple w.0));
   causes_are = r.own.causes_are;

@@ -1,5 +1,5 @@
 -- Right lines are true, and so is an accepted report.
-use Rattle.std.proofs.Common.{◌≡◌, ℕ, ◌⊎◌, inl, inr, List, [], ◌∷◌, ◌++◌, true, refl, sym, subst, ap, ◌∙◌}
+use Rattle.std.proofs.Common.{◌≡◌, ℕ, ◌⊎◌, inl, inr, List, [], ◌∷◌, ◌++◌, refl, sym, subst, ap, ◌∙◌}
 use Rattle.std.specs.Prelude.{reverse}
 use Rattle.std.proofs.lemmas.List.{append-nil, append_assoc}
 use Rattle.cq_terms.specs.declared.axioms.Axiom.{Axiom}
@@ -15,7 +15,7 @@ use Rattle.report_text.specs.declared.line.Origin.{Origin}
 use Rattle.report_rules.specs.declared.place.Place.{Place}
 use Rattle.report_rules.specs.declared.place.Place.TheVariants.{AtEnd, InAnswer, InTry, AfterCore, AfterForget}
 use Rattle.report_rules.specs.Inputs.{Input, OneQuery, report_on, query_at}
-use Rattle.report_rules.specs.Order.{place_of, is_answering, is_open, MayHaveBlock, AreBlocksOver, IsBetweenAnswers}
+use Rattle.report_rules.specs.Order.{place_of, is_answering, MayHaveBlock, AreBlocksOver, IsBetweenAnswers}
 use Rattle.report_rules.specs.Told.{mode_of, query_of, count_ends, answered}
 use Rattle.report_rules.specs.Tries.{asked}
 use Rattle.report_rules.specs.Accepted.{Right, AreRight, Accepts}
@@ -23,6 +23,7 @@ use Rattle.report_rules.specs.Laws.{tuple_of, tuples_of, mode_told, IsTrueLine, 
 use Rattle.report_rules.proofs.ListLemmas.{reverse-cons, Contains-reverse}
 use Rattle.report_rules.proofs.PlaceLemmas.{starts_empty}
 use Rattle.report_rules.proofs.AnswerLemmas.{AnswersAt, answers_at}
+use Rattle.report_rules.proofs.HeldLemmas.{opens_rightly}
 use Rattle.report_rules.proofs.VerdictLemmas.{verdict_true}
 
 -- ---- the tuples that are told
@@ -122,12 +123,12 @@ pub right_lines_true : (input : Input) (before : List Line) → AreRight input b
 right_lines_true input [] r a = tt
 right_lines_true input (line.Head axioms budget facts keep repairs version ∷ b) (r, rs) a = (tt, subst (AreTrue input) (sym (starts_empty b r.order)) tt)
 right_lines_true input (line.Answer brave ar iar cores names tuple ∷ b) (r, rs) a =
-    let opened = ap is_answering r.order in
+    let h = opens_rightly input b rs (ap is_answering r.order) in
     let same : (asked b).tuple ≡ tuple = sym r.own.same_tuple in (
       subst (λ t. IsTrueLine input.kb (mode_of b) (query_of input b) (line.Answer brave ar iar cores names t)) same (
-        verdict_true input b rs opened a cores question.Brave brave r.own.brave_is,
-        verdict_true input b rs opened a cores question.Ar ar r.own.ar_is,
-        verdict_true input b rs opened a cores question.Iar iar r.own.iar_is,
+        verdict_true input b h.0 h.1 a cores question.Brave brave r.own.brave_is,
+        verdict_true input b h.0 h.1 a cores question.Ar ar r.own.ar_is,
+        verdict_true input b h.0 h.1 a cores question.Iar iar r.own.iar_is,
       ),
       right_lines_true input b rs a,
     )
@@ -146,15 +147,15 @@ right_lines_true input (line.Forget clauses ∷ b) (r, rs) a = (tt, right_lines_
 -- the answer is true of the query
 line_true : (kb : Knowledge) (names : List (List ℕ)) (q : Query) (before : List Line) → IsAcyclic kb (mode_of before) → (l : Line) → AnswersAt (report_on kb names q) before l → IsTrueLine kb (mode_of before) q l
 line_true kb names q before a (line.Answer brave ar iar cores texts tuple) w =
-    let opened : is_open w.earlier ≡ true = ap is_answering w.at in
+    let h = opens_rightly (report_on kb names q) w.earlier w.right (ap is_answering w.at) in
     let acyclic : IsAcyclic kb (mode_of w.earlier) = subst (IsAcyclic kb) (sym w.same_mode) a in
     let same : query_of (report_on kb names q) w.earlier ≡ q = one_query kb names q w.earlier w.right (λ e. in_answer (place_of w.earlier) w.at e) in
     subst (λ m. IsTrueLine kb m q (line.Answer brave ar iar cores texts tuple)) w.same_mode
     (subst (λ p. IsTrueLine kb (mode_of w.earlier) p (line.Answer brave ar iar cores texts tuple)) same
     (subst (λ t. IsTrueLine kb (mode_of w.earlier) (query_of (report_on kb names q) w.earlier) (line.Answer brave ar iar cores texts t)) (sym w.own.same_tuple) (
-      verdict_true (report_on kb names q) w.earlier w.right opened acyclic cores question.Brave brave w.own.brave_is,
-      verdict_true (report_on kb names q) w.earlier w.right opened acyclic cores question.Ar ar w.own.ar_is,
-      verdict_true (report_on kb names q) w.earlier w.right opened acyclic cores question.Iar iar w.own.iar_is,
+      verdict_true (report_on kb names q) w.earlier h.0 h.1 acyclic cores question.Brave brave w.own.brave_is,
+      verdict_true (report_on kb names q) w.earlier h.0 h.1 acyclic cores question.Ar ar w.own.ar_is,
+      verdict_true (report_on kb names q) w.earlier h.0 h.1 acyclic cores question.Iar iar w.own.iar_is,
     )))
 line_true kb names q before a (line.Head axioms budget facts keep repairs version) w = tt
 line_true kb names q before a (line.Cq o query step) w = tt

@@ -1,5 +1,5 @@
--- An answer has few tries, and learns few clauses.
-use Rattle.std.proofs.Common.{◌≡◌, ◌≢◌, ℕ, suc, ◌<◌, ◌≤◌, ◌+◌, ◌*◌, inl, inr, List, [], ◌∷◌, ◌++◌, length, map, Contains, AllPairs, true, true≢false, refl, sym, subst, ap, cond, arith}
+-- An answer has few tries and cores, and learns few clauses.
+use Rattle.std.proofs.Common.{◌≡◌, ◌≢◌, ℕ, suc, ◌<◌, ◌≤◌, ◌+◌, ◌*◌, inl, inr, List, [], ◌∷◌, ◌++◌, length, map, Contains, AllPairs, refl, sym, subst, ap, cond, arith}
 use Rattle.std.proofs.lemmas.List.{length-map, length-append}
 use Rattle.std.proofs.lemmas.List.Kept.{AllPairs-cons}
 use Rattle.cq_terms.specs.Knowledge.{Knowledge}
@@ -13,15 +13,15 @@ use Rattle.report_text.specs.declared.line.Line.TheVariants as line
 use Rattle.report_text.specs.declared.line.Question.{Question}
 use Rattle.report_text.specs.declared.line.Question.TheVariants as question
 use Rattle.report_rules.specs.Inputs.{Input, selector_of}
-use Rattle.report_rules.specs.Order.{place_of, is_answering, is_open}
+use Rattle.report_rules.specs.declared.place.Place.TheVariants.{InTry}
+use Rattle.report_rules.specs.Order.{place_of}
 use Rattle.report_rules.specs.Told.{budget_of}
 use Rattle.report_rules.specs.Tries.{Asked, asked, question_of, Tried}
 use Rattle.report_rules.specs.Live.{same_question, learned_for}
 use Rattle.report_rules.specs.TryRules.{MayAssume}
-use Rattle.report_rules.specs.Accepted.{AreRight}
-use Rattle.report_rules.specs.Counting.{count_tries, count_clauses, HasFactsOf}
+use Rattle.report_rules.specs.OpenAnswers.{IsRightAnswer}
+use Rattle.report_rules.specs.Counting.{count_tries, count_clauses, count_try_cores, HasFactsOf}
 use Rattle.report_rules.proofs.ListLemmas.{AllPairs-head, AllPairs-tail}
-use Rattle.report_rules.proofs.PlaceLemmas.{try_open}
 
 -- ---- distinct members of a list are not more than it has
 
@@ -54,14 +54,14 @@ record AreTries (input : Input) (b : List Line) : Type 0 where
   distinct : AllPairs (λ s t. s ≢ t) (tries_of b)
   may : (q : Question) (assume : List ℕ) → Contains (tries_of b) (q, assume) → MayAssume input.kb (asked b) q assume
 
-tries_are : (input : Input) (b : List Line) → AreRight input b → is_open b ≡ true → AreTries input b
-tries_are input (line.Ask candidate tuple causes members ∷ b) r o = record {
+tries_are : (input : Input) (b : List Line) → IsRightAnswer input b → AreTries input b
+tries_are input (line.Ask candidate tuple causes members ∷ b) r = record {
   counted = refl;
   tried = λ q assume m. Contains-nil (pair_of q assume) m;
   distinct = λ i j d a l. absurd (omega arith);
   may = λ q assume m. absurd (Contains-nil (pair_of q assume) m);
 }
-tries_are input (line.Try q assume ∷ b) (r, rs) o = added (tries_are input b rs (ap is_answering r.order))
+tries_are input (line.Try q assume ∷ b) (r, rs) = added (tries_are input b rs)
   where
     same : (s : Question) (a : List ℕ) → pair_of q assume ≡ pair_of s a → (q ≡ s) × (assume ≡ a)
     same s a e = (ap (λ (p : Question × List ℕ). p.0) e, ap (λ (p : Question × List ℕ). p.1) e)
@@ -76,16 +76,16 @@ tries_are input (line.Try q assume ∷ b) (r, rs) o = added (tries_are input b r
         | inr k ↦ w.may s a k
       ];
     }
-tries_are input (line.Learn number clause ∷ b) (r, rs) o = let w = tries_are input b rs (ap is_answering r.order) in record { counted = w.counted; tried = w.tried; distinct = w.distinct; may = w.may }
-tries_are input (line.Core number kept dropped ∷ b) (r, rs) o = let w = tries_are input b rs (ap is_answering r.order) in record { counted = w.counted; tried = w.tried; distinct = w.distinct; may = w.may }
-tries_are input (line.Done how core ∷ b) (r, rs) o = let w = tries_are input b rs (try_open (place_of b) r.order) in record { counted = w.counted; tried = w.tried; distinct = w.distinct; may = w.may }
-tries_are input [] r o = absurd (true≢false (sym o))
-tries_are input (line.Head axioms budget facts keep repairs version ∷ b) r o = absurd (true≢false (sym o))
-tries_are input (line.Cq origin query step ∷ b) r o = absurd (true≢false (sym o))
-tries_are input (line.Conflict facts rule member ∷ b) r o = absurd (true≢false (sym o))
-tries_are input (line.Forget clauses ∷ b) r o = absurd (true≢false (sym o))
-tries_are input (line.Answer brave ar iar cores names tuple ∷ b) r o = absurd (true≢false (sym o))
-tries_are input (line.End answers brave ar iar undecided ∷ b) r o = absurd (true≢false (sym o))
+tries_are input (line.Learn number clause ∷ b) (r, rs) = let w = tries_are input b rs in record { counted = w.counted; tried = w.tried; distinct = w.distinct; may = w.may }
+tries_are input (line.Core number kept dropped ∷ b) (r, rs) = let w = tries_are input b rs in record { counted = w.counted; tried = w.tried; distinct = w.distinct; may = w.may }
+tries_are input (line.Done how core ∷ b) (r, rs) = let w = tries_are input b rs in record { counted = w.counted; tried = w.tried; distinct = w.distinct; may = w.may }
+tries_are input [] r = absurd r
+tries_are input (line.Head axioms budget facts keep repairs version ∷ b) (r, rs) = absurd r.own
+tries_are input (line.Cq origin query step ∷ b) (r, rs) = absurd r.own
+tries_are input (line.Conflict facts rule member ∷ b) (r, rs) = absurd r.own
+tries_are input (line.Forget clauses ∷ b) (r, rs) = absurd r.own
+tries_are input (line.Answer brave ar iar cores names tuple ∷ b) (r, rs) = absurd r.own
+tries_are input (line.End answers brave ar iar undecided ∷ b) (r, rs) = absurd r.own
 
 -- ---- all that may be tried
 
@@ -123,9 +123,9 @@ length-possible kb a facts =
     let iar = length-map facts (λ (i : ℕ). pair_of question.Iar (absent i ∷ [])) in
     omega arith
 
-pub tries_are_few : (input : Input) (before : List Line) → AreRight input before → is_open before ≡ true → (facts : List ℕ) → HasFactsOf (asked before).causes facts → count_tries before ≤ length (asked before).causes + length facts + 1
-tries_are_few input before r o facts has =
-    let w = tries_are input before r o in
+pub tries_are_few : (input : Input) (before : List Line) → IsRightAnswer input before → (facts : List ℕ) → HasFactsOf (asked before).causes facts → count_tries before ≤ length (asked before).causes + length facts + 1
+tries_are_few input before r facts has =
+    let w = tries_are input before r in
     let few = fewer_than (tries_of before) (possible input.kb (asked before) facts) w.distinct (λ t m. in_possible input.kb (asked before) facts has t.0 t.1 (w.may t.0 t.1 m)) in
     omega (arith, w.counted, length-possible input.kb (asked before) facts)
 
@@ -153,26 +153,50 @@ still_within question.Iar question.Ar n m budget l k e = l
 still_within question.Ar question.Brave n m budget l k e = l
 still_within question.Ar question.Iar n m budget l k e = l
 
-clauses_within : (input : Input) (b : List Line) → AreRight input b → is_open b ≡ true → WithinBudget b
-clauses_within input (line.Ask candidate tuple causes members ∷ b) r o = record { counted = refl; within = λ q. omega arith }
-clauses_within input (line.Learn number clause ∷ b) (r, rs) o =
-    let w = clauses_within input b rs (ap is_answering r.order) in
+clauses_within : (input : Input) (b : List Line) → IsRightAnswer input b → WithinBudget b
+clauses_within input (line.Ask candidate tuple causes members ∷ b) r = record { counted = refl; within = λ q. omega arith }
+clauses_within input (line.Learn number clause ∷ b) (r, rs) =
+    let w = clauses_within input b rs in
     record {
       counted = one_more (question_of b) (count_clauses b) (learned_for question.Brave b) (learned_for question.Iar b) (learned_for question.Ar b) w.counted;
       within = λ q. still_within q (question_of b) (learned_for q b) (learned_for (question_of b) b) (budget_of b) (w.within q) r.own.in_budget (λ e. ap (λ x. learned_for x b) e);
     }
-clauses_within input (line.Try q assume ∷ b) (r, rs) o = let w = clauses_within input b rs (ap is_answering r.order) in record { counted = w.counted; within = w.within }
-clauses_within input (line.Core number kept dropped ∷ b) (r, rs) o = let w = clauses_within input b rs (ap is_answering r.order) in record { counted = w.counted; within = w.within }
-clauses_within input (line.Done how core ∷ b) (r, rs) o = let w = clauses_within input b rs (try_open (place_of b) r.order) in record { counted = w.counted; within = w.within }
-clauses_within input [] r o = absurd (true≢false (sym o))
-clauses_within input (line.Head axioms budget facts keep repairs version ∷ b) r o = absurd (true≢false (sym o))
-clauses_within input (line.Cq origin query step ∷ b) r o = absurd (true≢false (sym o))
-clauses_within input (line.Conflict facts rule member ∷ b) r o = absurd (true≢false (sym o))
-clauses_within input (line.Forget clauses ∷ b) r o = absurd (true≢false (sym o))
-clauses_within input (line.Answer brave ar iar cores names tuple ∷ b) r o = absurd (true≢false (sym o))
-clauses_within input (line.End answers brave ar iar undecided ∷ b) r o = absurd (true≢false (sym o))
+clauses_within input (line.Try q assume ∷ b) (r, rs) = let w = clauses_within input b rs in record { counted = w.counted; within = w.within }
+clauses_within input (line.Core number kept dropped ∷ b) (r, rs) = let w = clauses_within input b rs in record { counted = w.counted; within = w.within }
+clauses_within input (line.Done how core ∷ b) (r, rs) = let w = clauses_within input b rs in record { counted = w.counted; within = w.within }
+clauses_within input [] r = absurd r
+clauses_within input (line.Head axioms budget facts keep repairs version ∷ b) (r, rs) = absurd r.own
+clauses_within input (line.Cq origin query step ∷ b) (r, rs) = absurd r.own
+clauses_within input (line.Conflict facts rule member ∷ b) (r, rs) = absurd r.own
+clauses_within input (line.Forget clauses ∷ b) (r, rs) = absurd r.own
+clauses_within input (line.Answer brave ar iar cores names tuple ∷ b) (r, rs) = absurd r.own
+clauses_within input (line.End answers brave ar iar undecided ∷ b) (r, rs) = absurd r.own
 
-pub clauses_are_few : (input : Input) (before : List Line) → AreRight input before → is_open before ≡ true → count_clauses before ≤ 3 * budget_of before
-clauses_are_few input before r o =
-    let w = clauses_within input before r o in
+pub clauses_are_few : (input : Input) (before : List Line) → IsRightAnswer input before → count_clauses before ≤ 3 * budget_of before
+clauses_are_few input before r =
+    let w = clauses_within input before r in
     omega (arith, w.counted, w.within question.Brave, w.within question.Iar, w.within question.Ar)
+
+-- ---- cores
+
+-- a try has at most one core line, and none where a line of the try may still be learned
+record FewCores (b : List Line) : Type 0 where
+  none : place_of b ≡ InTry → count_try_cores b ≡ 0
+  few : count_try_cores b ≤ 1
+
+few_cores : (input : Input) (b : List Line) → IsRightAnswer input b → FewCores b
+few_cores input [] r = absurd r
+few_cores input (line.Ask candidate tuple causes members ∷ b) r = record { none = λ e. refl; few = omega arith }
+few_cores input (line.Try q assume ∷ b) (r, rs) = record { none = λ e. refl; few = omega arith }
+few_cores input (line.Learn number clause ∷ b) (r, rs) = let w = few_cores input b rs in record { none = λ e. w.none r.order; few = w.few }
+few_cores input (line.Core number kept dropped ∷ b) (r, rs) = let e = (few_cores input b rs).none r.order in record { none = λ p. absurd (cc); few = omega arith }
+few_cores input (line.Done how core ∷ b) (r, rs) = let w = few_cores input b rs in record { none = λ p. absurd (cc); few = w.few }
+few_cores input (line.Head axioms budget facts keep repairs version ∷ b) (r, rs) = absurd r.own
+few_cores input (line.Cq origin query step ∷ b) (r, rs) = absurd r.own
+few_cores input (line.Conflict facts rule member ∷ b) (r, rs) = absurd r.own
+few_cores input (line.Forget clauses ∷ b) (r, rs) = absurd r.own
+few_cores input (line.Answer brave ar iar cores names tuple ∷ b) (r, rs) = absurd r.own
+few_cores input (line.End answers brave ar iar undecided ∷ b) (r, rs) = absurd r.own
+
+pub cores_are_few : (input : Input) (before : List Line) → IsRightAnswer input before → count_try_cores before ≤ 1
+cores_are_few input before r = (few_cores input before r).few

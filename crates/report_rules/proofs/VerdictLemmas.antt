@@ -1,11 +1,9 @@
 -- Each verdict that the lines of an answer settle is true.
-use Rattle.std.proofs.Common.{◌≡◌, ℕ, ◌<◌, inl, inr, List, [], ◌∷◌, length, map, Contains, Bool, true, false, None, Some, IsTrue, IsFalse, true≢false, refl, sym, subst, ap, ◌∙◌}
+use Rattle.std.proofs.Common.{◌≡◌, ℕ, ◌<◌, inl, inr, List, [], ◌∷◌, length, map, Contains, Bool, true, false, None, Some, IsTrue, IsFalse, true≢false, sym, subst, ◌∙◌}
 use Rattle.std.proofs.lemmas.Bool.{cases_Bool}
 use Rattle.cq_meaning.specs.Conflicts.{In, AreConsistent, FactsEntail}
-use Rattle.cq_meaning.specs.Cores.{IsCore}
 use Rattle.cq_meaning.specs.Candidates.{AreCauses}
 use Rattle.cq_meaning.specs.Repairs.{IsChosen, IsAcyclic}
-use Rattle.cq_meaning.proofs.Members.{Contains-cases, Contains-nil}
 use Rattle.cq_meaning.proofs.Extension.{AreConsistent-mono}
 use Rattle.cq_meaning.proofs.Single.{FactsEntail-mono}
 use Rattle.cq_meaning.proofs.Decided.{conflicts_told}
@@ -24,87 +22,54 @@ use Rattle.report_text.specs.declared.line.Verdict.{Verdict}
 use Rattle.report_text.specs.declared.line.Verdict.TheVariants as verdict
 use Rattle.report_text.specs.declared.line.How.TheVariants as how
 use Rattle.report_rules.specs.Inputs.{Input, selector_of}
-use Rattle.report_rules.specs.Order.{place_of, is_answering, is_open}
 use Rattle.report_rules.specs.Told.{query_of, mode_of}
 use Rattle.report_rules.specs.Tries.{asked, Ended}
 use Rattle.report_rules.specs.Live.{Live}
 use Rattle.report_rules.specs.Evidence.{IsShown, IsSettledAs, IsVerdict}
-use Rattle.report_rules.specs.Accepted.{AreRight}
+use Rattle.report_rules.specs.OpenAnswers.{IsRightAnswer}
+use Rattle.report_rules.specs.OpenLaws.{RestsOnTruth}
 use Rattle.report_rules.specs.Readings.{Reads, Holds, IsTrueVerdict}
 use Rattle.report_rules.proofs.ListLemmas.{only_one}
 use Rattle.report_rules.proofs.LiteralLemmas.{present_true, absent_true}
 use Rattle.report_rules.proofs.CauseLemmas.{listed_within, cause_entails, entails_cause}
-use Rattle.report_rules.proofs.PlaceLemmas.{try_open, starts_empty, asked_right}
-use Rattle.report_rules.proofs.LiveLemmas.{live_true, reading_exists}
+use Rattle.report_rules.proofs.LiveLemmas.{SatisfiesStart, satisfies_live, reading_exists, reading_starts, open_cores}
 
 -- a test isn't both true and false
 not_both : (b : Bool) → b ≡ true → b ≡ false → ⊥
 not_both b t f = true≢false (sym t ∙ f)
 
--- ---- cores
-
--- what a core line names is a core
-pub core_right : (input : Input) (before : List Line) → AreRight input before → (n : ℕ) (kept dropped : List ℕ) → Contains before (line.Core n kept dropped) → IsCore input.kb (mode_of before) (has kept) (has dropped)
-core_right input [] r n kept dropped m = absurd (Contains-nil _ m)
-core_right input (line.Head axioms budget facts keep repairs version ∷ b) (r, rs) n kept dropped m = elim (Contains-cases _ b _ m) [
-  | inl e ↦ absurd (cc)
-  | inr h ↦ absurd (Contains-nil (line.Core n kept dropped) (subst (λ x. Contains x (line.Core n kept dropped)) (starts_empty b r.order) h))
-]
-core_right input (line.Core number kept' dropped' ∷ b) (r, rs) n kept dropped m = elim (Contains-cases _ b _ m) [
-  | inl e ↦ (let own = r.own in
-      let same_kept : kept' ≡ kept = cc in
-      let same_dropped : dropped' ≡ dropped = cc in
-      subst (λ d. IsCore input.kb (mode_of b) (has kept) (has d)) same_dropped
-      (subst (λ k. IsCore input.kb (mode_of b) (has k) (has dropped')) same_kept own.core))
-  | inr h ↦ core_right input b rs n kept dropped h
-]
-core_right input (line.Cq o query step ∷ b) (r, rs) n kept dropped m = elim (Contains-cases _ b _ m) [ inl e ↦ absurd (cc) | inr h ↦ core_right input b rs n kept dropped h ]
-core_right input (line.Conflict facts rule member ∷ b) (r, rs) n kept dropped m = elim (Contains-cases _ b _ m) [ inl e ↦ absurd (cc) | inr h ↦ core_right input b rs n kept dropped h ]
-core_right input (line.Ask candidate tuple causes members ∷ b) (r, rs) n kept dropped m = elim (Contains-cases _ b _ m) [ inl e ↦ absurd (cc) | inr h ↦ core_right input b rs n kept dropped h ]
-core_right input (line.Try question assume ∷ b) (r, rs) n kept dropped m = elim (Contains-cases _ b _ m) [ inl e ↦ absurd (cc) | inr h ↦ core_right input b rs n kept dropped h ]
-core_right input (line.Learn number clause ∷ b) (r, rs) n kept dropped m = elim (Contains-cases _ b _ m) [ inl e ↦ absurd (cc) | inr h ↦ core_right input b rs n kept dropped h ]
-core_right input (line.Done how core ∷ b) (r, rs) n kept dropped m = elim (Contains-cases _ b _ m) [ inl e ↦ absurd (cc) | inr h ↦ core_right input b rs n kept dropped h ]
-core_right input (line.Forget clauses ∷ b) (r, rs) n kept dropped m = elim (Contains-cases _ b _ m) [ inl e ↦ absurd (cc) | inr h ↦ core_right input b rs n kept dropped h ]
-core_right input (line.Answer brave ar iar cores names tuple ∷ b) (r, rs) n kept dropped m = elim (Contains-cases _ b _ m) [ inl e ↦ absurd (cc) | inr h ↦ core_right input b rs n kept dropped h ]
-core_right input (line.End answers brave ar iar undecided ∷ b) (r, rs) n kept dropped m = elim (Contains-cases _ b _ m) [ inl e ↦ absurd (cc) | inr h ↦ core_right input b rs n kept dropped h ]
-
 -- ---- refuted tries
 
--- no reading of a chosen repair makes the assumptions of a refuted try true
-pub refuted_try : (input : Input) (before : List Line) → AreRight input before → is_open before ≡ true → (R : ℕ → Bool) → IsChosen input.kb (mode_of before) R → (v : ℕ → Bool) → Reads input before R v
+-- an assignment that satisfies what the answer starts with doesn't make the assumptions of a refuted try true
+pub refuted_try : (input : Input) (before : List Line) → IsRightAnswer input before → (v : ℕ → Bool) → SatisfiesStart input before v
     → (q : Question) (assume : List ℕ) → Ended q assume how.Refuted before → ((l : ℕ) → Contains assume l → IsTrueIn v l) → ⊥
-refuted_try input (line.Ask candidate tuple causes members ∷ b) r o R c v w q assume e t = e
-refuted_try input (line.Try question assume' ∷ b) (r, rs) o R c v w q assume e t =
-    refuted_try input b rs (ap is_answering r.order) R c v (record { facts = w.facts; selector = λ o. w.selector refl }) q assume e t
-refuted_try input (line.Learn number clause ∷ b) (r, rs) o R c v w q assume e t =
-    refuted_try input b rs (ap is_answering r.order) R c v (record { facts = w.facts; selector = λ o. w.selector refl }) q assume e t
-refuted_try input (line.Core number kept dropped ∷ b) (r, rs) o R c v w q assume e t =
-    refuted_try input b rs (ap is_answering r.order) R c v (record { facts = w.facts; selector = λ o. w.selector refl }) q assume e t
-refuted_try input (line.Done how.Refuted None ∷ b) (r, rs) o R c v w q assume (inl (eq, ea, eh)) t =
-    let w' : Reads input b R v = record { facts = w.facts; selector = λ o. w.selector refl } in
-    refuted_is_false (Live input.kb b) (Contains _) r.own v (live_true input b rs R c v w') (λ l m. t l (subst (λ a. Contains a l) ea m))
-refuted_try input (line.Done how.Refuted (Some n) ∷ b) (r, rs) o R c v w q assume (inl (eq, ea, eh)) t = absurd r.own
-refuted_try input (line.Done how.Model core ∷ b) (r, rs) o R c v w q assume (inl (eq, ea, eh)) t = absurd (cc)
-refuted_try input (line.Done how.Spent core ∷ b) (r, rs) o R c v w q assume (inl (eq, ea, eh)) t = absurd (cc)
-refuted_try input (line.Done h core ∷ b) (r, rs) o R c v w q assume (inr e) t =
-    refuted_try input b rs (try_open (place_of b) r.order) R c v (record { facts = w.facts; selector = λ o. w.selector refl }) q assume e t
-refuted_try input [] r o R c v w q assume e t = e
-refuted_try input (line.Head axioms budget facts keep repairs version ∷ b) r o R c v w q assume e t = absurd (true≢false (sym o))
-refuted_try input (line.Cq origin query step ∷ b) r o R c v w q assume e t = absurd (true≢false (sym o))
-refuted_try input (line.Conflict facts rule member ∷ b) r o R c v w q assume e t = absurd (true≢false (sym o))
-refuted_try input (line.Forget clauses ∷ b) r o R c v w q assume e t = absurd (true≢false (sym o))
-refuted_try input (line.Answer brave ar iar cores names tuple ∷ b) r o R c v w q assume e t = absurd (true≢false (sym o))
-refuted_try input (line.End answers brave ar iar undecided ∷ b) r o R c v w q assume e t = absurd (true≢false (sym o))
+refuted_try input [] r v w q assume e t = e
+refuted_try input (line.Ask candidate tuple causes members ∷ b) r v w q assume e t = e
+refuted_try input (line.Try question assume' ∷ b) (r, rs) v w q assume e t = refuted_try input b rs v w q assume e t
+refuted_try input (line.Learn number clause ∷ b) (r, rs) v w q assume e t = refuted_try input b rs v w q assume e t
+refuted_try input (line.Core number kept dropped ∷ b) (r, rs) v w q assume e t = refuted_try input b rs v w q assume e t
+refuted_try input (line.Done how.Refuted None ∷ b) (r, rs) v w q assume (inl (eq, ea, eh)) t =
+    refuted_is_false (Live input.kb b) (Contains _) r.own v (satisfies_live input b rs v w) (λ l m. t l (subst (λ a. Contains a l) ea m))
+refuted_try input (line.Done how.Refuted (Some n) ∷ b) (r, rs) v w q assume (inl (eq, ea, eh)) t = absurd r.own
+refuted_try input (line.Done how.Model core ∷ b) (r, rs) v w q assume (inl (eq, ea, eh)) t = absurd (cc)
+refuted_try input (line.Done how.Spent core ∷ b) (r, rs) v w q assume (inl (eq, ea, eh)) t = absurd (cc)
+refuted_try input (line.Done h core ∷ b) (r, rs) v w q assume (inr e) t = refuted_try input b rs v w q assume e t
+refuted_try input (line.Head axioms budget facts keep repairs version ∷ b) (r, rs) v w q assume e t = absurd r.own
+refuted_try input (line.Cq origin query step ∷ b) (r, rs) v w q assume e t = absurd r.own
+refuted_try input (line.Conflict facts rule member ∷ b) (r, rs) v w q assume e t = absurd r.own
+refuted_try input (line.Forget clauses ∷ b) (r, rs) v w q assume e t = absurd r.own
+refuted_try input (line.Answer brave ar iar cores names tuple ∷ b) (r, rs) v w q assume e t = absurd r.own
+refuted_try input (line.End answers brave ar iar undecided ∷ b) (r, rs) v w q assume e t = absurd r.own
 
 -- ---- the table of evidence
 
-module _ (input : Input) (before : List Line) (right : AreRight input before) (opened : is_open before ≡ true) (acyclic : IsAcyclic input.kb (mode_of before)) (cores : List ℕ) where
+module _ (input : Input) (before : List Line) (right : IsRightAnswer input before) (rests : RestsOnTruth input before) (acyclic : IsAcyclic input.kb (mode_of before)) (cores : List ℕ) where
   -- what is said of the open candidate
   abbrev Says : Question → Type 0
   Says q = Holds input.kb (mode_of before) (query_of input before) (asked before).tuple q
 
   causes_are : AreCauses input.kb (query_of input before) (asked before).tuple (asked before).causes
-  causes_are = (asked_right input before right opened).causes_are
+  causes_are = rests.in_place.causes_are
 
   is_fact : (cause : List ℕ) → Contains (asked before).causes cause → (i : ℕ) → Contains cause i → i < length input.kb.facts
   is_fact = listed_within input.kb (query_of input before) (asked before).tuple (asked before).causes causes_are
@@ -122,12 +87,19 @@ module _ (input : Input) (before : List Line) (right : AreRight input before) (o
       → (R : ℕ → Bool) × IsChosen input.kb (mode_of before) R × ((i : ℕ) → Contains kept i → In R i) × ((i : ℕ) → i < length input.kb.facts → Contains dropped i → IsFalse (R i))
   repair_of n kept dropped m =
       let t = conflicts_told input.kb in
-      let w = core_extends input.kb (mode_of before) t.0 t.1 t.2 acyclic (has kept) (has dropped) (core_right input before right n kept dropped m) in
+      let w = core_extends input.kb (mode_of before) t.0 t.1 t.2 acyclic (has kept) (has dropped) (open_cores input before right rests.cores n kept dropped m) in
       (w.0, w.1, (λ i k. w.2 i (has_true kept i k)), (λ i l k. w.3 i l (has_true dropped i k)))
 
   -- there is a chosen repair
   some_chosen : (R : ℕ → Bool) × IsChosen input.kb (mode_of before) R
   some_chosen = let t = conflicts_told input.kb in chosen_exists input.kb (mode_of before) t.0 t.1 t.2 acyclic
+
+  -- a reading of a chosen repair, and the clauses that it makes true
+  read : (R : ℕ → Bool) → IsChosen input.kb (mode_of before) R
+      → (v : ℕ → Bool) × Reads input before R v × SatisfiesStart input before v × (v (selector_of input.kb (asked before).candidate) ≡ false → FactsEntail input.kb (In R) (query_of input before) (asked before).tuple)
+  read R c =
+      let u = reading_exists input before rests.in_place R c.repair.consistent in
+      (u.0, u.1, reading_starts input before right rests.in_place rests.learned R u.0 c u.1, u.2)
 
   brave_yes : IsShown input.kb before cores question.Brave verdict.Yes → Says question.Brave
   brave_yes (n, kept, dropped, names, m, (cause, k, within)) =
@@ -137,18 +109,18 @@ module _ (input : Input) (before : List Line) (right : AreRight input before) (o
   brave_no : IsShown input.kb before cores question.Brave verdict.No → ¬ Says question.Brave
   brave_no h (R, c, e) =
       let (cause, m, inside) = some_cause (In R) c.repair.consistent e in
-      let u = reading_exists input before right opened R c.repair.consistent in
-      refuted_try input before right opened R c u.0 u.1 question.Brave (map present cause) (h cause m) (λ l k.
+      let u = read R c in
+      refuted_try input before right u.0 u.2 question.Brave (map present cause) (h cause m) (λ l k.
       let (i, j, same) = Contains-map_cases present cause l k in
       subst (IsTrueIn u.0) same (present_true u.0 i (u.1.facts i (is_fact cause m i j) ∙ inside i j)))
 
   ar_yes : IsShown input.kb before cores question.Ar verdict.Yes → Says question.Ar
   ar_yes h R c =
-      let u = reading_exists input before right opened R c.repair.consistent in
+      let u = read R c in
       let sel : ℕ = selector_of input.kb (asked before).candidate in
       elim (cases_Bool (u.0 sel)) [
-        | inl t ↦ absurd (refuted_try input before right opened R c u.0 u.1 question.Ar (present sel ∷ []) h (λ l k. subst (IsTrueIn u.0) (only_one (present sel) l k) (present_true u.0 sel t)))
-        | inr f ↦ u.2 f
+        | inl t ↦ absurd (refuted_try input before right u.0 u.2 question.Ar (present sel ∷ []) h (λ l k. subst (IsTrueIn u.0) (only_one (present sel) l k) (present_true u.0 sel t)))
+        | inr f ↦ u.3 f
       ]
 
   ar_no : IsShown input.kb before cores question.Ar verdict.No → ¬ Says question.Ar
@@ -160,10 +132,10 @@ module _ (input : Input) (before : List Line) (right : AreRight input before) (o
 
   iar_yes : IsShown input.kb before cores question.Iar verdict.Yes → Says question.Iar
   iar_yes (cause, m, each) = entailed cause m (λ i. (R : ℕ → Bool) → IsChosen input.kb (mode_of before) R → IsTrue (R i)) (λ i k R c.
-      let u = reading_exists input before right opened R c.repair.consistent in
+      let u = read R c in
       elim (cases_Bool (R i)) [
         | inl t ↦ t
-        | inr f ↦ absurd (refuted_try input before right opened R c u.0 u.1 question.Iar (absent i ∷ []) (each i k)
+        | inr f ↦ absurd (refuted_try input before right u.0 u.2 question.Iar (absent i ∷ []) (each i k)
             (λ l j. subst (IsTrueIn u.0) (only_one (absent i) l j) (absent_true u.0 i (u.1.facts i (is_fact cause m i k) ∙ f))))
       ])
 

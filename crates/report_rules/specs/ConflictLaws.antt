@@ -1,9 +1,11 @@
--- The law of conflict lines: the clashes of a table are what the lines have to tell.
+-- The laws of conflicts: the clashes of a table are what the conflict lines have to tell, and what a priority is over.
 use Rattle.std.specs.Prelude.{List, ℕ, map}
 use Rattle.cq_terms.specs.declared.hits.Clash.{Clash}
 use Rattle.cq_terms.specs.Conflicts.{ConflictGraph, AreClashes}
 use Rattle.cq_terms.specs.Knowledge.{Knowledge}
-use Rattle.priority_graph.specs.Inputs.{AreConflictsOf}
+use Rattle.cq_terms.specs.declared.facts.Repairs.{Repairs}
+use Rattle.priority_graph.specs.Priority.{Priority, IsOver}
+use Rattle.priority_graph.specs.Inputs.{AreConflictsOf, IsPriorityOf}
 use Rattle.report_rules.specs.ConflictLists.{AreConflictLists}
 
 -- the facts of each clash, in their order
@@ -14,3 +16,8 @@ facts_told clashes = map (λ (c : Clash). c.facts) clashes
 abbrev pub ClashesAreConflictLists : Type 0
 ClashesAreConflictLists = (kb : Knowledge) (g : ConflictGraph) → AreConflictsOf kb g → AreClashes g.facts g.clashes
     → AreConflictLists kb (facts_told g.clashes)
+
+-- where the priority of a knowledge base is over conflicts, these are those of the knowledge base
+abbrev pub PriorityTellsConflicts : Type 0
+PriorityTellsConflicts = (kb : Knowledge) (mode : Repairs) (p : Priority) (g : ConflictGraph) → IsPriorityOf kb mode p → IsOver p g
+    → AreConflictsOf kb g

@@ -1,4 +1,4 @@
--- The laws of an answer's length: how many tries and learned clauses it has.
+-- The laws of an answer's length: how many tries, learned clauses and cores it has.
 use Rattle.std.specs.Prelude.{◌≡◌, ◌≤◌, ◌+◌, ◌*◌, ℕ, suc, length, List, [], ◌∷◌, Contains, true}
 use Rattle.report_text.specs.declared.line.Line.{Line}
 use Rattle.report_text.specs.declared.line.Line.TheVariants as line
@@ -36,3 +36,15 @@ TriesAreFew = (input : Input) (before : List Line) → AreRight input before →
 abbrev pub ClausesAreFew : Type 0
 ClausesAreFew = (input : Input) (before : List Line) → AreRight input before → is_open before ≡ true
     → count_clauses before ≤ 3 * budget_of before
+
+-- how many core lines the last try of this answer has
+abbrev pub count_try_cores : List Line → ℕ
+count_try_cores [] = 0
+count_try_cores (line.Ask candidate tuple causes members ∷ before) = 0
+count_try_cores (line.Try q assume ∷ before) = 0
+count_try_cores (line.Core number kept dropped ∷ before) = suc (count_try_cores before)
+count_try_cores (_ ∷ before) = count_try_cores before
+
+-- a try has at most one core line
+abbrev pub CoresAreFew : Type 0
+CoresAreFew = (input : Input) (before : List Line) → AreRight input before → is_open before ≡ true → count_try_cores before ≤ 1

@@ -1,13 +1,18 @@
 -- The laws of undecided questions: what leaves none open.
-use Rattle.std.specs.Prelude.{◌≡◌, ◌≤◌, ◌^◌, ℕ, suc, length, List, reverse, All, Contains}
+use Rattle.std.specs.Prelude.{◌≡◌, ◌≤◌, ◌^◌, ℕ, suc, length, List, [], ◌∷◌, reverse, All, Contains}
 use Rattle.cq_terms.specs.declared.facts.Repairs.TheVariants as mode
 use Rattle.cq_terms.specs.Knowledge.{Knowledge}
 use Rattle.cq_terms.specs.Query.{Query}
 use Rattle.cq_meaning.specs.Candidates.{AreCauses}
 use Rattle.report_text.specs.declared.line.Line.{Line}
 use Rattle.report_text.specs.declared.line.Line.TheVariants as line
-use Rattle.report_rules.specs.ConflictLists.{AreConflictFacts}
+use Rattle.repair_encoder.specs.BaseClauses.{absent}
+use Rattle.report_text.specs.declared.line.Question.TheVariants as question
+use Rattle.report_rules.specs.ConflictLists.{IsInConflict, AreConflictFacts}
 use Rattle.report_rules.specs.Told.{budget_of}
+use Rattle.report_rules.specs.Tries.{Asked}
+use Rattle.report_rules.specs.TryRules.{MayAssume, IsEasy}
+use Rattle.report_rules.specs.OpenAnswers.{AreConsistentLists}
 use Rattle.report_rules.specs.Accepted.{Accepts}
 use Rattle.report_rules.specs.Readings.{IsDecided}
 use Rattle.report_rules.specs.Laws.{mode_told}
@@ -39,3 +44,11 @@ IsDecidedWithoutPriority kb q _ = Unit {0}
 abbrev pub AllModeDecides : Type 0
 AllModeDecides = (kb : Knowledge) (names : List (List ℕ)) (q : Query) (lines : List Line) → Accepts kb names q lines
     → mode_told lines ≡ mode.All → All (IsDecidedWithoutPriority kb q) lines
+
+-- over all repairs a brave try is easy where the causes are lists of facts that are consistent together, and an IAR try is where its
+-- fact is in a conflict
+abbrev pub TriesAreEasy : Type 0
+TriesAreEasy = (kb : Knowledge)
+    → ((a : Asked) → AreConsistentLists kb a.causes → (assume : List ℕ) → MayAssume kb a question.Brave assume
+    → IsEasy kb mode.All question.Brave assume)
+    × ((i : ℕ) → IsInConflict kb i → IsEasy kb mode.All question.Iar (absent i ∷ []))

@@ -1,10 +1,9 @@
 -- Answers: their JSON is plain and reads back as them, and what is read is right.
-use Rattle.std.proofs.Common.{◌≡◌, ℕ, ◌≤◌, false, List, Some, codes, refl, arith, IsUtf8}
+use Rattle.std.proofs.Common.{◌≡◌, ℕ, ◌≤◌, List, Some, codes, refl, arith, IsUtf8}
 use Rattle.std.proofs.lemmas.Option.{option_and_then_some}
 use Rattle.json.proofs.Printed.Utf8.{IsUtf8-are_ascii}
 use Rattle.serde_json.specs.Data.{Data, depth}
 use Rattle.serde_json.specs.Read.{max_depth}
-use Rattle.serde_json.specs.Written.{has_float}
 use Rattle.report_text.specs.declared.line.Line.{Line}
 use Rattle.report_text.specs.declared.line.Line.TheVariants as line
 use Rattle.report_text.specs.declared.line.Verdict.{Verdict}
@@ -13,7 +12,7 @@ use Rattle.report_text.specs.Fields.{longs_at, ids_at, texts_at}
 use Rattle.report_text.specs.AnswerLine.{IsWellFormedAnswer, verdict_word, verdict_of, verdict_at, answer_data, answer_at}
 use Rattle.report_text.specs.Lines.{IsWellFormed}
 use Rattle.report_text.proofs.Plain.{IsPlain}
-use Rattle.report_text.proofs.FieldFacts.{items_have_float-numbers, items_have_float-texts, items_depth-numbers, items_depth-texts, ArePlain-longs, ArePlain-ids, ArePlain-texts, each_of-longs, each_of-ids, each_of-texts, All-longs_at, All-ids_at, All-texts_at}
+use Rattle.report_text.proofs.FieldFacts.{items_depth-numbers, items_depth-texts, ArePlain-longs, ArePlain-ids, ArePlain-texts, each_of-longs, each_of-ids, each_of-texts, All-longs_at, All-ids_at, All-texts_at}
 
 -- a verdict's word is UTF-8
 IsUtf8-verdict_word : (verdict : Verdict) → IsUtf8 (verdict_word verdict)
@@ -26,10 +25,6 @@ verdict_of-word : (verdict : Verdict) → verdict_of (verdict_word verdict) ≡ 
 verdict_of-word Yes = refl
 verdict_of-word No = refl
 verdict_of-word Undecided = refl
-
--- no answer has a float
-pub has_float-answer_data : (brave ar iar : Verdict) (cores : List ℕ) (names : List (List ℕ)) (tuple : List ℕ) → has_float (answer_data brave ar iar cores names tuple) ≡ false
-has_float-answer_data brave ar iar cores names tuple = rw (items_have_float-numbers cores, items_have_float-texts names, items_have_float-numbers tuple) refl
 
 -- a well-formed answer's JSON is plain
 pub IsPlain-answer_data : (brave ar iar : Verdict) (cores : List ℕ) (names : List (List ℕ)) (tuple : List ℕ) → IsWellFormedAnswer cores names tuple

@@ -1,21 +1,16 @@
 -- Candidates: their JSON is plain and reads back as them, and what is read is right.
-use Rattle.std.proofs.Common.{◌≡◌, ℕ, ◌≤◌, ◌^◌, false, List, Some, codes, refl, arith}
+use Rattle.std.proofs.Common.{◌≡◌, ℕ, ◌≤◌, ◌^◌, List, Some, codes, refl, arith}
 use Rattle.std.proofs.lemmas.Option.{option_and_then_some}
 use Rattle.json.proofs.Printed.Utf8.{IsUtf8-are_ascii}
 use Rattle.serde_json.specs.Data.{Data, depth}
 use Rattle.serde_json.specs.Read.{max_depth}
-use Rattle.serde_json.specs.Written.{has_float}
 use Rattle.report_text.specs.declared.line.Line.{Line}
 use Rattle.report_text.specs.declared.line.Line.TheVariants as line
 use Rattle.report_text.specs.Fields.{id_at, ids_at, id_lists_at}
 use Rattle.report_text.specs.AskLine.{IsWellFormedAsk, ask_data, ask_at}
 use Rattle.report_text.specs.Lines.{IsWellFormed}
 use Rattle.report_text.proofs.Plain.{IsPlain}
-use Rattle.report_text.proofs.FieldFacts.{items_have_float-numbers, items_have_float-lists, items_depth-numbers, items_depth-lists, ArePlain-ids, ArePlain-lists, if_below-lt, each_of-ids, each_of-lists, below-id_at, All-ids_at, All-id_lists_at}
-
--- no candidate has a float
-pub has_float-ask_data : (candidate : ℕ) (tuple : List ℕ) (causes : List (List ℕ)) (members : List ℕ) → has_float (ask_data candidate tuple causes members) ≡ false
-has_float-ask_data candidate tuple causes members = rw (items_have_float-lists causes, items_have_float-numbers members, items_have_float-numbers tuple) refl
+use Rattle.report_text.proofs.FieldFacts.{items_depth-numbers, items_depth-lists, ArePlain-ids, ArePlain-lists, if_below-lt, each_of-ids, each_of-lists, below-id_at, All-ids_at, All-id_lists_at}
 
 -- a well-formed candidate's JSON is plain
 pub IsPlain-ask_data : (candidate : ℕ) (tuple : List ℕ) (causes : List (List ℕ)) (members : List ℕ) → IsWellFormedAsk candidate tuple causes members → IsPlain (ask_data candidate tuple causes members)

@@ -1,5 +1,5 @@
 -- Terms and atoms: their JSON is plain and reads back as them, and what is read is in its range.
-use Rattle.std.proofs.Common.{◌≡◌, ℕ, ◌<◌, ◌≤◌, ◌^◌, Bool, true, false, List, Option, Some, None, map, option_and_then, codes, refl, arith, All}
+use Rattle.std.proofs.Common.{◌≡◌, ℕ, ◌<◌, ◌≤◌, ◌^◌, Bool, true, false, List, Some, None, map, option_and_then, codes, refl, arith, All}
 use Rattle.std.specs.Prelude.{if◌then◌else◌, is_some}
 use Rattle.std.specs.Str.{bytes_eq}
 use Rattle.std.proofs.lemmas.Option.{option_and_then_some}
@@ -7,7 +7,6 @@ use Rattle.json.proofs.Printed.Utf8.{IsUtf8-are_ascii}
 use Rattle.serde_json.specs.Data.{Data, depth, items_depth}
 use Rattle.serde_json.specs.Find.{at, as_array}
 use Rattle.serde_json.specs.View.{items_of}
-use Rattle.serde_json.specs.Written.{has_float, items_have_float}
 use Rattle.cq_terms.specs.declared.query.Term.{Term}
 use Rattle.cq_terms.specs.declared.query.Term.TheVariants as term
 use Rattle.cq_terms.specs.declared.query.QAtom.{QAtom}
@@ -15,20 +14,9 @@ use Rattle.cq_terms.specs.declared.query.QAtom.TheVariants as atom
 use Rattle.report_text.specs.Fields.{is_null, id_of, each_of, id_in, word_in, items_at}
 use Rattle.report_text.specs.Atoms.{IsTermInRange, IsAtomInRange, term_data, atom_data, term_of, term_in, concept_of, link_of, atom_of_kind, atom_of, terms_at, atoms_at}
 use Rattle.report_text.proofs.Plain.{IsPlain, ArePlain}
-use Rattle.report_text.proofs.FieldFacts.{items_have_float-each, items_depth-each, ArePlain-each, if_below-lt, each_of-each, below-id_of, below-id_in, All-each_of}
+use Rattle.report_text.proofs.FieldFacts.{items_depth-each, ArePlain-each, if_below-lt, each_of-each, below-id_of, below-id_in, All-each_of}
 
 -- PRINTED
-
--- no term has a float
-has_float-term_data : (t : Term) → has_float (term_data t) ≡ false
-has_float-term_data (term.Var l) = refl
-has_float-term_data (term.Ind c) = refl
-has_float-term_data term.Any = refl
-
--- nor has an atom
-has_float-atom_data : (a : QAtom) → has_float (atom_data a) ≡ false
-has_float-atom_data (atom.Concept p t) = rw (has_float-term_data t) refl
-has_float-atom_data (atom.Link p s t) = rw (has_float-term_data s, has_float-term_data t) refl
 
 -- terms nest once
 depth-term_data : (t : Term) → depth (term_data t) ≤ 1
@@ -51,14 +39,6 @@ IsPlain-term_data term.Any h = tt
 IsPlain-atom_data : (a : QAtom) → IsAtomInRange a → IsPlain (atom_data a)
 IsPlain-atom_data (atom.Concept p t) h = let small : p < 2 ^ 32 = h.0 in (IsUtf8-are_ascii _ refl, (omega arith, (IsPlain-term_data t h.1, tt)))
 IsPlain-atom_data (atom.Link p s t) h = let small : p < 2 ^ 32 = h.0 in (IsUtf8-are_ascii _ refl, (omega arith, (IsPlain-term_data s h.1, (IsPlain-term_data t h.2, tt))))
-
--- terms have no float
-pub items_have_float-terms : (ts : List Term) → items_have_float (items_of (map term_data ts)) ≡ false
-items_have_float-terms ts = items_have_float-each term_data has_float-term_data ts
-
--- nor have atoms
-pub items_have_float-atoms : (atoms : List QAtom) → items_have_float (items_of (map atom_data atoms)) ≡ false
-items_have_float-atoms atoms = items_have_float-each atom_data has_float-atom_data atoms
 
 -- terms nest once, in a list too
 pub items_depth-terms : (ts : List Term) → items_depth (items_of (map term_data ts)) ≤ 1

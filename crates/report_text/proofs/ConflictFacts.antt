@@ -6,14 +6,13 @@ use Rattle.std.proofs.lemmas.Option.{option_and_then_some}
 use Rattle.json.proofs.Printed.Utf8.{IsUtf8-are_ascii}
 use Rattle.serde_json.specs.Data.{Data, depth}
 use Rattle.serde_json.specs.Read.{max_depth}
-use Rattle.serde_json.specs.Written.{has_float}
 use Rattle.report_text.specs.declared.line.Line.{Line}
 use Rattle.report_text.specs.declared.line.Line.TheVariants as line
 use Rattle.report_text.specs.Fields.{id_at, ids_at}
 use Rattle.report_text.specs.ConflictLine.{IsWellFormedConflict, is_one_or_two, conflict_data, conflict_at}
 use Rattle.report_text.specs.Lines.{IsWellFormed}
 use Rattle.report_text.proofs.Plain.{IsPlain}
-use Rattle.report_text.proofs.FieldFacts.{items_have_float-numbers, items_depth-numbers, ArePlain-ids, if_below-lt, each_of-ids, below-id_at, All-ids_at}
+use Rattle.report_text.proofs.FieldFacts.{items_depth-numbers, ArePlain-ids, if_below-lt, each_of-ids, below-id_at, All-ids_at}
 
 -- one or two passes
 is_one_or_two-true : (count : ℕ) → (count ≡ 1) ⊎ (count ≡ 2) → is_one_or_two count ≡ true
@@ -21,16 +20,12 @@ is_one_or_two-true count (inl e) = rw e refl
 is_one_or_two-true count (inr e) = rw e refl
 
 -- what passes is one or two
-true-is_one_or_two : (count : ℕ) → is_one_or_two count ≡ true → (count ≡ 1) ⊎ (count ≡ 2)
+pub true-is_one_or_two : (count : ℕ) → is_one_or_two count ≡ true → (count ≡ 1) ⊎ (count ≡ 2)
 true-is_one_or_two count h = by (count == 1) (Decides-eqb count 1).0 h
   where
     by : (b : Bool) → (b ≡ true → count ≡ 1) → (b || (count == 2)) ≡ true → (count ≡ 1) ⊎ (count ≡ 2)
     by true one h = inl (one refl)
     by false one h = inr ((Decides-eqb count 2).0 h)
-
--- no conflict has a float
-pub has_float-conflict_data : (facts : List ℕ) (rule place : ℕ) → has_float (conflict_data facts rule place) ≡ false
-has_float-conflict_data facts rule place = rw (items_have_float-numbers facts) refl
 
 -- a well-formed conflict's JSON is plain
 pub IsPlain-conflict_data : (facts : List ℕ) (rule place : ℕ) → IsWellFormedConflict facts rule place → IsPlain (conflict_data facts rule place)

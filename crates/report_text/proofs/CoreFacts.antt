@@ -1,21 +1,16 @@
 -- Cores: their JSON is plain and reads back as them, and what is read is right.
-use Rattle.std.proofs.Common.{◌≡◌, ℕ, ◌≤◌, ◌^◌, false, List, Some, codes, refl, arith}
+use Rattle.std.proofs.Common.{◌≡◌, ℕ, ◌≤◌, ◌^◌, List, Some, codes, refl, arith}
 use Rattle.std.proofs.lemmas.Option.{option_and_then_some}
 use Rattle.json.proofs.Printed.Utf8.{IsUtf8-are_ascii}
 use Rattle.serde_json.specs.Data.{Data, depth}
 use Rattle.serde_json.specs.Read.{max_depth}
-use Rattle.serde_json.specs.Written.{has_float}
 use Rattle.report_text.specs.declared.line.Line.{Line}
 use Rattle.report_text.specs.declared.line.Line.TheVariants as line
 use Rattle.report_text.specs.Fields.{long_at, ids_at}
 use Rattle.report_text.specs.CoreLine.{IsWellFormedCore, core_data, core_at}
 use Rattle.report_text.specs.Lines.{IsWellFormed}
 use Rattle.report_text.proofs.Plain.{IsPlain}
-use Rattle.report_text.proofs.FieldFacts.{items_have_float-numbers, items_depth-numbers, ArePlain-ids, if_below-lt, each_of-ids, below-long_at, All-ids_at}
-
--- no core has a float
-pub has_float-core_data : (number : ℕ) (kept dropped : List ℕ) → has_float (core_data number kept dropped) ≡ false
-has_float-core_data number kept dropped = rw (items_have_float-numbers dropped, items_have_float-numbers kept) refl
+use Rattle.report_text.proofs.FieldFacts.{items_depth-numbers, ArePlain-ids, if_below-lt, each_of-ids, below-long_at, All-ids_at}
 
 -- a well-formed core's JSON is plain
 pub IsPlain-core_data : (number : ℕ) (kept dropped : List ℕ) → IsWellFormedCore number kept dropped → IsPlain (core_data number kept dropped)

@@ -1,5 +1,5 @@
 -- Queries of closures: their JSON is plain and reads back as them, and what is read is right.
-use Rattle.std.proofs.Common.{◌≡◌, ℕ, ◌<◌, ◌≤◌, ◌^◌, Bool, true, false, List, Option, Some, None, IfSome, option_and_then, codes, refl, subst, sym, arith, All}
+use Rattle.std.proofs.Common.{◌≡◌, ℕ, ◌<◌, ◌≤◌, ◌^◌, Bool, true, false, Option, Some, None, IfSome, option_and_then, codes, refl, subst, sym, arith, All}
 use Rattle.std.specs.Prelude.{if◌then◌else◌, is_some}
 use Rattle.std.specs.Str.{bytes_eq}
 use Rattle.std.proofs.lemmas.Option.{option_and_then_some}
@@ -7,7 +7,6 @@ use Rattle.json.proofs.Printed.Utf8.{IsUtf8-are_ascii}
 use Rattle.serde_json.specs.Data.{Data, depth}
 use Rattle.serde_json.specs.Find.{get, as_str}
 use Rattle.serde_json.specs.Read.{max_depth}
-use Rattle.serde_json.specs.Written.{has_float}
 use Rattle.cq_terms.specs.Query.{Query, IsSafe}
 use Rattle.cq_steps.specs.declared.moves.Move.{Move}
 use Rattle.cq_steps.specs.declared.moves.Move.TheVariants as step
@@ -17,12 +16,11 @@ use Rattle.report_text.specs.declared.line.Origin.{Origin}
 use Rattle.report_text.specs.declared.line.Origin.TheVariants as origin
 use Rattle.report_text.specs.Fields.{is_null, id_of, id_in, word_in}
 use Rattle.report_text.specs.Atoms.{IsTermInRange, IsAtomInRange, terms_at, atoms_at}
-use Rattle.report_text.specs.SafeQuery.{if_safe}
 use Rattle.report_text.specs.CqLine.{IsOriginInRange, IsMoveInRange, IsWellFormedCq, origin_data, move_data, move_data_of, parent_data, cq_data, origin_of, origin_at, axiom_move_of, reduce_move_of, move_of_kind, move_of, step_of, step_at, query_at, cq_at}
 use Rattle.report_text.specs.Lines.{IsWellFormed}
 use Rattle.report_text.proofs.Plain.{IsPlain}
 use Rattle.report_text.proofs.FieldFacts.{if_below-lt, below-id_of, below-id_in}
-use Rattle.report_text.proofs.AtomFacts.{items_have_float-terms, items_have_float-atoms, items_depth-terms, items_depth-atoms, ArePlain-terms, ArePlain-atoms, each_of-terms, each_of-atoms, All-terms_at, All-atoms_at}
+use Rattle.report_text.proofs.AtomFacts.{items_depth-terms, items_depth-atoms, ArePlain-terms, ArePlain-atoms, each_of-terms, each_of-atoms, All-terms_at, All-atoms_at}
 use Rattle.report_text.proofs.SafeFacts.{if_safe-query, IsSafe-if_safe}
 
 -- the numbers of the step are in their range
@@ -30,20 +28,6 @@ abbrev IsStepInRange : Option (ℕ × Move) → Type 0
 IsStepInRange made_by = IfSome made_by (λ s. (s.0 < 2 ^ 32) × IsMoveInRange s.1)
 
 -- ORIGINS AND STEPS PRINTED
-
--- none of these has a float
-has_float-origin_data : (of : Origin) → has_float (origin_data of) ≡ false
-has_float-origin_data origin.Query = refl
-has_float-origin_data (origin.Negative rule) = refl
-
-has_float-move_data_of : (made_by : Option (ℕ × Move)) → has_float (move_data_of made_by) ≡ false
-has_float-move_data_of None = refl
-has_float-move_data_of (Some (parent, step.Axiom place rule)) = refl
-has_float-move_data_of (Some (parent, step.Reduce first second)) = refl
-
-has_float-parent_data : (made_by : Option (ℕ × Move)) → has_float (parent_data made_by) ≡ false
-has_float-parent_data None = refl
-has_float-parent_data (Some s) = refl
 
 -- each of these is shallow
 depth-origin_data : (of : Origin) → depth (origin_data of) ≡ 0
@@ -77,11 +61,6 @@ IsPlain-parent_data None h = tt
 IsPlain-parent_data (Some s) h = let small : s.0 < 2 ^ 32 = h.0 in omega arith
 
 -- LINES PRINTED
-
--- no query has a float
-pub has_float-cq_data : (of : Origin) (query : Query) (made_by : Option (ℕ × Move)) → has_float (cq_data of query made_by) ≡ false
-has_float-cq_data of query made_by =
-    rw (items_have_float-atoms query.body, items_have_float-terms query.head, has_float-move_data_of made_by, has_float-origin_data of, has_float-parent_data made_by) refl
 
 -- a well-formed query's JSON is plain
 pub IsPlain-cq_data : (of : Origin) (query : Query) (made_by : Option (ℕ × Move)) → IsWellFormedCq of query made_by → IsPlain (cq_data of query made_by)

@@ -5,7 +5,6 @@ use Rattle.std.proofs.lemmas.Option.{option_and_then_some}
 use Rattle.json.proofs.Printed.Utf8.{IsUtf8-are_ascii}
 use Rattle.serde_json.specs.Data.{Data, depth}
 use Rattle.serde_json.specs.Read.{max_depth}
-use Rattle.serde_json.specs.Written.{has_float}
 use Rattle.report_text.specs.declared.line.Line.{Line}
 use Rattle.report_text.specs.declared.line.Line.TheVariants as line
 use Rattle.report_text.specs.declared.line.How.{How}
@@ -14,7 +13,7 @@ use Rattle.report_text.specs.Fields.{long_or_null_at}
 use Rattle.report_text.specs.DoneLine.{IsWellFormedDone, how_word, how_of, how_at, has_its_core, done_data, done_at}
 use Rattle.report_text.specs.Lines.{IsWellFormed}
 use Rattle.report_text.proofs.Plain.{IsPlain}
-use Rattle.report_text.proofs.FieldFacts.{has_float-long_or_null, depth-long_or_null, IsPlain-long_or_null, long_or_null-data, below-long_or_null_at}
+use Rattle.report_text.proofs.FieldFacts.{depth-long_or_null, IsPlain-long_or_null, long_or_null-data, below-long_or_null_at}
 
 -- the word for how a try ended is UTF-8
 IsUtf8-how_word : (how : How) → IsUtf8 (how_word how)
@@ -38,17 +37,13 @@ has_its_core-true Spent (Some n) h = let model = h.0 refl in cc model
 has_its_core-true Spent None h = refl
 
 -- what passes has a core exactly for a model
-true-has_its_core : (how : How) (core : Option ℕ) → has_its_core how core ≡ true → IsSome core ↔ (how ≡ Model)
+pub true-has_its_core : (how : How) (core : Option ℕ) → has_its_core how core ≡ true → IsSome core ↔ (how ≡ Model)
 true-has_its_core Model (Some n) h = ((λ _. refl), (λ _. refl))
 true-has_its_core Model None h = cc h
 true-has_its_core Refuted (Some n) h = cc h
 true-has_its_core Refuted None h = ((λ some. cc some), (λ model. cc model))
 true-has_its_core Spent (Some n) h = cc h
 true-has_its_core Spent None h = ((λ some. cc some), (λ model. cc model))
-
--- no end of a try has a float
-pub has_float-done_data : (how : How) (core : Option ℕ) → has_float (done_data how core) ≡ false
-has_float-done_data how core = rw (has_float-long_or_null core) refl
 
 -- a well-formed end of a try has plain JSON
 pub IsPlain-done_data : (how : How) (core : Option ℕ) → IsWellFormedDone how core → IsPlain (done_data how core)

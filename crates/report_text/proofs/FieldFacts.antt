@@ -1,4 +1,4 @@
--- Numbers, words and lists as JSON: they are plain, shallow and without floats, and they read back.
+-- Numbers, words and lists as JSON: they are plain and shallow, and they read back.
 use Rattle.std.proofs.Common.{◌≡◌, ℕ, ◌<◌, ◌≤◌, ◌^◌, Bool, false, true, List, [], ◌∷◌, Option, Some, None, option_map, option_and_then, map, refl, ap, ◌∙◌, arith, rules, IsUtf8, All, IfSome, string_bytes, Global, String as Text}
 use Rattle.std.specs.Prelude.{if◌then◌else◌}
 use Rattle.std.proofs.lemmas.Bool.Decides.{nat_tests}
@@ -11,21 +11,10 @@ use Rattle.serde_json.specs.Find.{get, at, as_number, as_u64, as_str, as_array}
 use Rattle.serde_json.specs.View.{items_of, view}
 use Rattle.serde_json.specs.declared.value.Value as value
 use Rattle.serde_json.specs.declared.value.Value.{Value, the_lemmas}
-use Rattle.serde_json.specs.Written.{has_float, items_have_float}
 use Rattle.report_text.specs.Fields.{number_data, numbers_data, long_or_null_data, if_below, if_text, is_null, long_of, long_or_null, id_of, ids_of, text_in, each_of, id_in, long_at, long_or_null_at, id_at, items_at, longs_at, ids_at, id_lists_at, texts_at}
 use Rattle.report_text.proofs.Plain.{IsPlain, ArePlain}
 
 -- PRINTED
-
--- numbers are no floats
-pub items_have_float-numbers : (ns : List ℕ) → items_have_float (items_of (map number_data ns)) ≡ false
-items_have_float-numbers [] = refl
-items_have_float-numbers (n ∷ ns) = items_have_float-numbers ns
-
--- texts are no floats
-pub items_have_float-texts : (ts : List (List ℕ)) → items_have_float (items_of (map string ts)) ≡ false
-items_have_float-texts [] = refl
-items_have_float-texts (t ∷ ts) = items_have_float-texts ts
 
 -- numbers nest no deeper
 pub items_depth-numbers : (ns : List ℕ) → items_depth (items_of (map number_data ns)) ≡ 0
@@ -52,11 +41,6 @@ pub ArePlain-texts : (ts : List (List ℕ)) → All IsUtf8 ts → ArePlain (item
 ArePlain-texts [] h = tt
 ArePlain-texts (t ∷ ts) h = (All-head IsUtf8 t ts h, ArePlain-texts ts (All-tail IsUtf8 t ts h))
 
--- items without floats are no floats
-pub items_have_float-each : {X : Type 0} (f : X → Data) → ((x : X) → has_float (f x) ≡ false) → (xs : List X) → items_have_float (items_of (map f xs)) ≡ false
-items_have_float-each f none [] = refl
-items_have_float-each f none (x ∷ xs) = rw (none x) (items_have_float-each f none xs)
-
 -- items nest no deeper than each of them
 pub items_depth-each : {X : Type 0} (f : X → Data) (n : ℕ) → ((x : X) → depth (f x) ≤ n) → (xs : List X) → items_depth (items_of (map f xs)) ≤ n
 items_depth-each f n shallow [] = omega arith
@@ -67,10 +51,6 @@ pub ArePlain-each : {X : Type 0} (P : X → Type 0) (f : X → Data) → ((x : X
 ArePlain-each P f plain [] h = tt
 ArePlain-each P f plain (x ∷ xs) h = (plain x (All-head P x xs h), ArePlain-each P f plain xs (All-tail P x xs h))
 
--- lists of numbers are no floats
-pub items_have_float-lists : (lists : List (List ℕ)) → items_have_float (items_of (map numbers_data lists)) ≡ false
-items_have_float-lists lists = items_have_float-each numbers_data items_have_float-numbers lists
-
 -- lists of numbers nest once
 pub items_depth-lists : (lists : List (List ℕ)) → items_depth (items_of (map numbers_data lists)) ≤ 1
 items_depth-lists lists = items_depth-each numbers_data 1 (λ ns. omega (arith, items_depth-numbers ns)) lists
@@ -78,11 +58,6 @@ items_depth-lists lists = items_depth-each numbers_data 1 (λ ns. omega (arith, 
 -- lists of numbers below 2^32 are plain
 pub ArePlain-lists : (lists : List (List ℕ)) → All (λ ns. All (λ n. n < 2 ^ 32) ns) lists → ArePlain (items_of (map numbers_data lists))
 ArePlain-lists lists h = ArePlain-each (λ ns. All (λ n. n < 2 ^ 32) ns) numbers_data ArePlain-ids lists h
-
--- a number or null is no float
-pub has_float-long_or_null : (o : Option ℕ) → has_float (long_or_null_data o) ≡ false
-has_float-long_or_null None = refl
-has_float-long_or_null (Some n) = refl
 
 -- a number or null does not nest
 pub depth-long_or_null : (o : Option ℕ) → depth (long_or_null_data o) ≡ 0

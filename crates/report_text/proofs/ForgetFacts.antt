@@ -1,21 +1,16 @@
 -- Forgotten clauses: their JSON is plain and reads back as them, and what is read is right.
-use Rattle.std.proofs.Common.{◌≡◌, ℕ, ◌≤◌, false, List, Some, codes, refl, arith}
+use Rattle.std.proofs.Common.{◌≡◌, ℕ, ◌≤◌, List, Some, codes, refl, arith}
 use Rattle.std.proofs.lemmas.Option.{option_and_then_some}
 use Rattle.json.proofs.Printed.Utf8.{IsUtf8-are_ascii}
 use Rattle.serde_json.specs.Data.{Data, depth}
 use Rattle.serde_json.specs.Read.{max_depth}
-use Rattle.serde_json.specs.Written.{has_float}
 use Rattle.report_text.specs.declared.line.Line.{Line}
 use Rattle.report_text.specs.declared.line.Line.TheVariants as line
 use Rattle.report_text.specs.Fields.{longs_at}
 use Rattle.report_text.specs.ForgetLine.{IsWellFormedForget, forget_data, forget_at}
 use Rattle.report_text.specs.Lines.{IsWellFormed}
 use Rattle.report_text.proofs.Plain.{IsPlain}
-use Rattle.report_text.proofs.FieldFacts.{items_have_float-numbers, items_depth-numbers, ArePlain-longs, each_of-longs, All-longs_at}
-
--- no forgotten clauses have a float
-pub has_float-forget_data : (clauses : List ℕ) → has_float (forget_data clauses) ≡ false
-has_float-forget_data clauses = rw (items_have_float-numbers clauses) refl
+use Rattle.report_text.proofs.FieldFacts.{items_depth-numbers, ArePlain-longs, each_of-longs, All-longs_at}
 
 -- well-formed forgotten clauses' JSON is plain
 pub IsPlain-forget_data : (clauses : List ℕ) → IsWellFormedForget clauses → IsPlain (forget_data clauses)

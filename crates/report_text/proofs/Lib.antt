@@ -6,12 +6,14 @@ pub mod CoreFacts
 pub mod CqFacts
 pub mod DoneFacts
 pub mod EndFacts
+pub mod EscapeFacts
 pub mod FieldFacts
 pub mod ForgetFacts
 pub mod HeadFacts
 pub mod LearnFacts
 pub mod LineFacts
 pub mod NoLineFeed
+pub mod PieceFacts
 pub mod Plain
 pub mod SafeFacts
 pub mod ToldFacts

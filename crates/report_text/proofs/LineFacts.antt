@@ -6,7 +6,6 @@ use Rattle.std.proofs.lemmas.Option.{option_and_then_some}
 use Rattle.std.proofs.lemmas.Slice.Eq.{bytes_eq-Decides}
 use Rattle.serde_json.specs.Data.{Data, depth}
 use Rattle.serde_json.specs.Read.{read, max_depth}
-use Rattle.serde_json.specs.Written.{has_float, compact_text}
 use Rattle.report_text.specs.declared.line.Line.{Line}
 use Rattle.report_text.specs.declared.line.Line.TheVariants as line
 use Rattle.report_text.specs.Fields.{word_at}
@@ -26,32 +25,18 @@ use Rattle.report_text.proofs.NoLineFeed.{has_line_feed}
 use Rattle.report_text.proofs.Plain.{IsPlain, read-compact_text, IsUtf8-compact_text}
 use Rattle.report_text.proofs.NoLineFeed.{none-compact_text}
 use Rattle.report_text.proofs.HeadFacts.{IsPlain-head_data, depth-head_data, head_at-head_data, IsWellFormed-head_at}
-use Rattle.report_text.proofs.CqFacts.{has_float-cq_data, IsPlain-cq_data, depth-cq_data, cq_at-cq_data, IsWellFormed-cq_at}
-use Rattle.report_text.proofs.ConflictFacts.{has_float-conflict_data, IsPlain-conflict_data, depth-conflict_data, conflict_at-conflict_data, IsWellFormed-conflict_at}
-use Rattle.report_text.proofs.AskFacts.{has_float-ask_data, IsPlain-ask_data, depth-ask_data, ask_at-ask_data, IsWellFormed-ask_at}
-use Rattle.report_text.proofs.TryFacts.{has_float-try_data, IsPlain-try_data, depth-try_data, try_at-try_data, IsWellFormed-try_at}
-use Rattle.report_text.proofs.LearnFacts.{has_float-learn_data, IsPlain-learn_data, depth-learn_data, learn_at-learn_data, IsWellFormed-learn_at}
-use Rattle.report_text.proofs.CoreFacts.{has_float-core_data, IsPlain-core_data, depth-core_data, core_at-core_data, IsWellFormed-core_at}
-use Rattle.report_text.proofs.DoneFacts.{has_float-done_data, IsPlain-done_data, depth-done_data, done_at-done_data, IsWellFormed-done_at}
-use Rattle.report_text.proofs.ForgetFacts.{has_float-forget_data, IsPlain-forget_data, depth-forget_data, forget_at-forget_data, IsWellFormed-forget_at}
-use Rattle.report_text.proofs.AnswerFacts.{has_float-answer_data, IsPlain-answer_data, depth-answer_data, answer_at-answer_data, IsWellFormed-answer_at}
+use Rattle.report_text.proofs.CqFacts.{IsPlain-cq_data, depth-cq_data, cq_at-cq_data, IsWellFormed-cq_at}
+use Rattle.report_text.proofs.ConflictFacts.{IsPlain-conflict_data, depth-conflict_data, conflict_at-conflict_data, IsWellFormed-conflict_at}
+use Rattle.report_text.proofs.AskFacts.{IsPlain-ask_data, depth-ask_data, ask_at-ask_data, IsWellFormed-ask_at}
+use Rattle.report_text.proofs.TryFacts.{IsPlain-try_data, depth-try_data, try_at-try_data, IsWellFormed-try_at}
+use Rattle.report_text.proofs.LearnFacts.{IsPlain-learn_data, depth-learn_data, learn_at-learn_data, IsWellFormed-learn_at}
+use Rattle.report_text.proofs.CoreFacts.{IsPlain-core_data, depth-core_data, core_at-core_data, IsWellFormed-core_at}
+use Rattle.report_text.proofs.DoneFacts.{IsPlain-done_data, depth-done_data, done_at-done_data, IsWellFormed-done_at}
+use Rattle.report_text.proofs.ForgetFacts.{IsPlain-forget_data, depth-forget_data, forget_at-forget_data, IsWellFormed-forget_at}
+use Rattle.report_text.proofs.AnswerFacts.{IsPlain-answer_data, depth-answer_data, answer_at-answer_data, IsWellFormed-answer_at}
 use Rattle.report_text.proofs.EndFacts.{IsPlain-end_data, depth-end_data, end_at-end_data, IsWellFormed-end_at}
 
 -- BY KIND
-
--- no line has a float
-has_float-data_of : (l : Line) → has_float (data_of l) ≡ false
-has_float-data_of (line.Head axioms budget facts keep repairs version) = refl
-has_float-data_of (line.Cq of query made_by) = has_float-cq_data of query made_by
-has_float-data_of (line.Conflict facts rule place) = has_float-conflict_data facts rule place
-has_float-data_of (line.Ask candidate tuple causes members) = has_float-ask_data candidate tuple causes members
-has_float-data_of (line.Try question assume) = has_float-try_data question assume
-has_float-data_of (line.Learn number clause) = has_float-learn_data number clause
-has_float-data_of (line.Core number kept dropped) = has_float-core_data number kept dropped
-has_float-data_of (line.Done how core) = has_float-done_data how core
-has_float-data_of (line.Forget clauses) = has_float-forget_data clauses
-has_float-data_of (line.Answer brave ar iar cores names tuple) = has_float-answer_data brave ar iar cores names tuple
-has_float-data_of (line.End answers brave ar iar undecided) = refl
 
 -- a well-formed line's JSON is plain
 IsPlain-data_of : (l : Line) → IsWellFormed l → IsPlain (data_of l)
@@ -123,11 +108,6 @@ IsWellFormed-line_of_kind word d found e =
 pub IsWellFormed-line_at : (d : Data) (found : Line) → line_at d ≡ Some found → IsWellFormed found
 unfolding line_at
 IsWellFormed-line_at d found e = option_and_then_some (λ word. line_of_kind word d) (word_at (codes "k") d) found e (λ word word_is e. IsWellFormed-line_of_kind word d found e)
-
--- the text that is printed for the line's JSON
-pub text_of-printed : (l : Line) (d : Data) (text : List ℕ) → d ≡ data_of l → (has_float d ≡ false → text ≡ compact_text d) → text ≡ text_of l
-unfolding text_of
-text_of-printed l d text e printed = printed (rw e (has_float-data_of l)) ∙ ap compact_text e
 
 -- a line's text reads as its JSON
 pub read-text_of : (l : Line) → IsWellFormed l → read (text_of l) ≡ Some (data_of l)

@@ -84,7 +84,7 @@ followed_by-none no_members = refl
 followed_by-none (member k d ms) = ap (member k d) (followed_by-none ms)
 
 -- both of two tests hold
-both : (a b : Bool) → (a && b) ≡ true → (a ≡ true) × (b ≡ true)
+pub both : (a b : Bool) → (a && b) ≡ true → (a ≡ true) × (b ≡ true)
 both true b h = (refl, h)
 both false b h = cc
 

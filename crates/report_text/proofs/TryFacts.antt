@@ -1,10 +1,9 @@
 -- Tries: their JSON is plain and reads back as them, and what is read is right.
-use Rattle.std.proofs.Common.{◌≡◌, ℕ, ◌≤◌, false, List, Some, codes, refl, arith, IsUtf8}
+use Rattle.std.proofs.Common.{◌≡◌, ℕ, ◌≤◌, List, Some, codes, refl, arith, IsUtf8}
 use Rattle.std.proofs.lemmas.Option.{option_and_then_some}
 use Rattle.json.proofs.Printed.Utf8.{IsUtf8-are_ascii}
 use Rattle.serde_json.specs.Data.{Data, depth}
 use Rattle.serde_json.specs.Read.{max_depth}
-use Rattle.serde_json.specs.Written.{has_float}
 use Rattle.report_text.specs.declared.line.Line.{Line}
 use Rattle.report_text.specs.declared.line.Line.TheVariants as line
 use Rattle.report_text.specs.declared.line.Question.{Question}
@@ -13,7 +12,7 @@ use Rattle.report_text.specs.Fields.{ids_at}
 use Rattle.report_text.specs.TryLine.{IsWellFormedTry, question_word, question_of, question_at, try_data, try_at}
 use Rattle.report_text.specs.Lines.{IsWellFormed}
 use Rattle.report_text.proofs.Plain.{IsPlain}
-use Rattle.report_text.proofs.FieldFacts.{items_have_float-numbers, items_depth-numbers, ArePlain-ids, each_of-ids, All-ids_at}
+use Rattle.report_text.proofs.FieldFacts.{items_depth-numbers, ArePlain-ids, each_of-ids, All-ids_at}
 
 -- a question's word is UTF-8
 IsUtf8-question_word : (question : Question) → IsUtf8 (question_word question)
@@ -26,10 +25,6 @@ question_of-word : (question : Question) → question_of (question_word question
 question_of-word Brave = refl
 question_of-word Iar = refl
 question_of-word Ar = refl
-
--- no try has a float
-pub has_float-try_data : (question : Question) (assume : List ℕ) → has_float (try_data question assume) ≡ false
-has_float-try_data question assume = rw (items_have_float-numbers assume) refl
 
 -- a well-formed try's JSON is plain
 pub IsPlain-try_data : (question : Question) (assume : List ℕ) → IsWellFormedTry assume → IsPlain (try_data question assume)

@@ -1,5 +1,6 @@
 -- What the fields of a line are as JSON: numbers, words, and arrays of numbers, of lists and of texts.
-use Rattle.std.specs.Prelude.{ℕ, ◌^◌, List, [], ◌∷◌, map, Bool, Option, Some, None, is_some, option_and_then, option_map, if◌then◌else◌, nat_lt}
+use Rattle.std.specs.Prelude.{ℕ, ◌==◌, ◌^◌, List, [], ◌∷◌, map, Bool, not, ◌&&◌, Option, Some, None, is_some, option_and_then, option_map, if◌then◌else◌, nat_lt, nat_le}
+use Rattle.std.specs.List.{list_all}
 use Rattle.std.specs.Str.{is_utf8}
 use Rattle.serde_json.specs.Data.{Data, null, number, unsigned, string, array, Items, no_items, item}
 use Rattle.serde_json.specs.Find.{get, at, as_null, as_number, as_u64, as_str, as_array}
@@ -27,6 +28,14 @@ long_or_null_data (Some n) = number_data n
 -- an array of texts
 abbrev pub texts_data : List (List ℕ) → Data
 texts_data texts = array (items_of (map string texts))
+
+-- whether the byte stands for itself in a string: it is no control byte, quote or backslash
+abbrev pub stands_for_itself : ℕ → Bool
+stands_for_itself byte = nat_le 32 byte && (not (byte == 34) && not (byte == 92))
+
+-- whether the text stands between quotes as it is
+abbrev pub needs_no_escape : List ℕ → Bool
+needs_no_escape text = list_all stands_for_itself text
 
 -- READ
 

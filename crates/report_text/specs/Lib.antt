@@ -12,6 +12,7 @@ pub mod HeadLine
 pub mod LearnLine
 pub mod LineBytes
 pub mod Lines
+pub mod Pieces
 pub mod Reports
 pub mod SafeQuery
 pub mod TryLine

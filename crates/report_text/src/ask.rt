@@ -1,36 +1,66 @@
 //! A candidate with its causes.
 
-ghost use Rattle.std.specs.Prelude.{◌≡◌, IfOk};
+ghost use Rattle.std.specs.Prelude.{◌≡◌, ◌++◌, OnOk, IfOk, IfSome, string_bytes};
 ghost use Rattle.serde_json.specs.View.{view};
+ghost use Rattle.serde_json.specs.Written.{compact_text};
 ghost use Rattle.report_text.specs.AskLine.{ask_data, ask_at};
+ghost use Rattle.report_text.specs.Lines.{IsWellFormed};
 
 use crate::Line;
-use crate::fields::{id_at, id_lists_at, id_lists_value, ids_at, ids_value};
+use crate::cursor::Cursor;
+use crate::fields::{id_at, id_lists_at, ids_at, put_id, put_id_lists, put_ids};
 use cq_terms::{IdLists, Ids, NoMemory};
-use serde_json::{Value, json};
+use serde_json::Value;
 use std::alloc::{AllocError, Global};
 
-/// The candidate as JSON.
-pub fn ask_value(
-    alloc: Global,
+/// Appends the candidate's text.
+pub fn put_ask(
+    out: &mut String,
     candidate: u32,
     tuple: &Ids,
     causes: &IdLists,
     members: &Ids,
-) -> Result<Value, AllocError>
-    ensures exact { IfOk result
-        (λ v. view v ≡ ask_data candidate tuple.now causes.now members.now) }
+) -> Result<(), AllocError>
+    ensures exact { OnOk result (string_bytes out.new ≡ string_bytes out.old
+        ++ compact_text (ask_data candidate tuple.now causes.now members.now)) }
 {
-    let causes = id_lists_value(alloc, causes.as_slice())?;
-    let members = ids_value(alloc, members.as_slice())?;
-    let tuple = ids_value(alloc, tuple.as_slice())?;
-    json!(in alloc; {
-        "candidate": candidate,
-        "causes": causes,
-        "k": "ask",
-        "members": members,
-        "tuple": tuple
-    })
+    out.push_str(r#"{"candidate":"#)?;
+    put_id(out, candidate)?;
+    out.push_str(r#","causes":"#)?;
+    put_id_lists(out, causes.as_slice())?;
+    out.push_str(r#","k":"ask","members":"#)?;
+    put_ids(out, members.as_slice())?;
+    out.push_str(r#","tuple":"#)?;
+    put_ids(out, tuple.as_slice())?;
+    out.push_str("}")?;
+    Ok(())
+}
+
+/// The candidate behind the key `candidate`.
+pub fn ask_in(alloc: Global, text: &mut Cursor<'_>) -> Result<Option<Line>, NoMemory>
+    ensures right { IfOk result (λ o. IfSome o IsWellFormed) }
+{
+    let Some(candidate) = text.id() else {
+        return Ok(None);
+    };
+    text.takes(r#","causes":"#);
+    let Some(causes) = text.id_lists(alloc)? else {
+        return Ok(None);
+    };
+    text.takes(r#","k":"ask","members":"#);
+    let Some(members) = text.ids(alloc)? else {
+        return Ok(None);
+    };
+    text.takes(r#","tuple":"#);
+    let Some(tuple) = text.ids(alloc)? else {
+        return Ok(None);
+    };
+    Ok(Some(Line::Ask {
+        candidate,
+        tuple,
+        causes,
+        members,
+    }))
 }
 
 /// The candidate whose fields the value has.

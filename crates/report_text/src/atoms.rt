@@ -1,70 +1,96 @@
 //! Terms and atoms of a query as JSON.
 
-ghost use Rattle.std.specs.Prelude.{◌≡◌, IfOk, option_map};
+ghost use Rattle.std.specs.Prelude.{◌≡◌, ◌++◌, OnOk, IfOk, string_bytes, option_map};
 ghost use Rattle.serde_json.specs.View.{view};
+ghost use Rattle.serde_json.specs.Written.{compact_text};
 ghost use Rattle.report_text.specs.Atoms.{term_data, terms_data, concept_data, link_data, atom_data, atoms_data, term_of, term_in, concept_of, link_of, atom_of_kind, atom_of, terms_at, atoms_at};
 
-use crate::fields::{id_in, id_of, items_at, word_in};
+use crate::fields::{id_in, id_of, items_at, put_comma_if, put_id, put_ids, word_in};
 use cq_terms::{NoMemory, QAtom, Term};
-use serde_json::{Value, json};
+use serde_json::Value;
 use std::alloc::{AllocError, Global};
 
-/// A term: a number for a variable, an array of a number for an individual, null for `_`.
-fn term_value(alloc: Global, term: Term) -> Result<Value, AllocError>
-    ensures exact { IfOk result (λ v. view v ≡ term_data term) }
+/// Appends a term: a number for a variable, an array of a number for an individual, null for `_`.
+fn put_term(out: &mut String, term: Term) -> Result<(), AllocError>
+    ensures exact { OnOk result (string_bytes out.new
+        ≡ string_bytes out.old ++ compact_text (term_data term)) }
 {
     match term {
-        Term::Var(number) => Ok(Value::from(number)),
-        Term::Ind(number) => json!(in alloc; [number]),
-        Term::Any => Ok(Value::Null),
+        Term::Var(number) => put_id(out, number),
+        Term::Ind(number) => put_ids(out, &[number]),
+        Term::Any => out.push_str("null"),
     }
 }
 
-/// An atom: an array of `c` or `r`, the predicate, and the terms.
-fn atom_value(alloc: Global, atom: &QAtom) -> Result<Value, AllocError>
-    ensures exact { IfOk result (λ v. view v ≡ atom_data atom.now) }
+/// Appends an atom: an array of `c` or `r`, the predicate, and the terms.
+fn put_atom(out: &mut String, atom: &QAtom) -> Result<(), AllocError>
+    ensures exact { OnOk result (string_bytes out.new
+        ≡ string_bytes out.old ++ compact_text (atom_data atom.now)) }
 {
     match *atom {
-        QAtom::Concept { pred, at } => concept_value(alloc, pred, at),
-        QAtom::Link { pred, from, to } => link_value(alloc, pred, from, to),
+        QAtom::Concept { pred, at } => put_concept(out, pred, at),
+        QAtom::Link { pred, from, to } => put_link(out, pred, from, to),
     }
 }
 
-fn concept_value(alloc: Global, pred: u32, at: Term) -> Result<Value, AllocError>
-    ensures exact { IfOk result (λ v. view v ≡ concept_data pred at) }
+#[tactic(auto, unfolding(json::specs::Print::escape_byte))]
+fn put_concept(out: &mut String, pred: u32, at: Term) -> Result<(), AllocError>
+    ensures exact { OnOk result (string_bytes out.new
+        ≡ string_bytes out.old ++ compact_text (concept_data pred at)) }
 {
-    let at = term_value(alloc, at)?;
-    json!(in alloc; ["c", pred, at])
+    out.push_str(r#"["c","#)?;
+    put_id(out, pred)?;
+    out.push(',')?;
+    put_term(out, at)?;
+    out.push(']')?;
+    Ok(())
 }
 
-fn link_value(alloc: Global, pred: u32, from: Term, to: Term) -> Result<Value, AllocError>
-    ensures exact { IfOk result (λ v. view v ≡ link_data pred from to) }
+#[tactic(auto, unfolding(json::specs::Print::escape_byte))]
+fn put_link(out: &mut String, pred: u32, from: Term, to: Term) -> Result<(), AllocError>
+    ensures exact { OnOk result (string_bytes out.new
+        ≡ string_bytes out.old ++ compact_text (link_data pred from to)) }
 {
-    let from = term_value(alloc, from)?;
-    let to = term_value(alloc, to)?;
-    json!(in alloc; ["r", pred, from, to])
+    out.push_str(r#"["r","#)?;
+    put_id(out, pred)?;
+    out.push(',')?;
+    put_term(out, from)?;
+    out.push(',')?;
+    put_term(out, to)?;
+    out.push(']')?;
+    Ok(())
 }
 
-/// An array of terms.
-pub fn terms_value(alloc: Global, terms: &[Term]) -> Result<Value, AllocError>
-    ensures exact { IfOk result (λ v. view v ≡ terms_data terms.now) }
+/// Appends an array of terms.
+pub fn put_terms(out: &mut String, terms: &[Term]) -> Result<(), AllocError>
+    ensures exact { OnOk result (string_bytes out.new
+        ≡ string_bytes out.old ++ compact_text (terms_data terms.now)) }
 {
-    let mut items = Vec::new(alloc);
+    out.push('[')?;
+    let mut later = false;
     for term in terms {
-        items.push(term_value(alloc, *term)?)?;
+        put_comma_if(out, later)?;
+        put_term(out, *term)?;
+        later = true;
     }
-    Ok(Value::Array(items))
+    out.push(']')?;
+    Ok(())
 }
 
-/// An array of atoms.
-pub fn atoms_value(alloc: Global, atoms: &[QAtom]) -> Result<Value, AllocError>
-    ensures exact { IfOk result (λ v. view v ≡ atoms_data atoms.now) }
+/// Appends an array of atoms.
+pub fn put_atoms(out: &mut String, atoms: &[QAtom]) -> Result<(), AllocError>
+    ensures exact { OnOk result (string_bytes out.new
+        ≡ string_bytes out.old ++ compact_text (atoms_data atoms.now)) }
 {
-    let mut items = Vec::new(alloc);
+    out.push('[')?;
+    let mut later = false;
     for atom in atoms {
-        items.push(atom_value(alloc, atom)?)?;
+        put_comma_if(out, later)?;
+        put_atom(out, atom)?;
+        later = true;
     }
-    Ok(Value::Array(items))
+    out.push(']')?;
+    Ok(())
 }
 
 /// The value as a term.

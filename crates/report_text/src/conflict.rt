@@ -1,26 +1,62 @@
 //! A conflict: a self-inconsistent fact, or two facts that contradict an axiom.
 
-ghost use Rattle.std.specs.Prelude.{◌≡◌, IfOk, length};
+ghost use Rattle.std.specs.Prelude.{◌≡◌, ◌++◌, OnOk, IfOk, IfSome, string_bytes, length};
 ghost use Rattle.serde_json.specs.View.{view};
+ghost use Rattle.serde_json.specs.Written.{compact_text};
 ghost use Rattle.report_text.specs.ConflictLine.{is_one_or_two, conflict_data, conflict_at};
+ghost use Rattle.report_text.specs.Lines.{IsWellFormed};
 
 use crate::Line;
-use crate::fields::{id_at, ids_at, ids_value};
+use crate::cursor::Cursor;
+use crate::fields::{id_at, ids_at, put_id, put_ids};
 use cq_terms::{Ids, NoMemory};
-use serde_json::{Value, json};
+use serde_json::Value;
 use std::alloc::{AllocError, Global};
 
-/// The conflict as JSON.
-pub fn conflict_value(
-    alloc: Global,
+/// Appends the conflict's text.
+pub fn put_conflict(
+    out: &mut String,
     facts: &Ids,
     axiom: u32,
     member: u32,
-) -> Result<Value, AllocError>
-    ensures exact { IfOk result (λ v. view v ≡ conflict_data facts.now «axiom» member) }
+) -> Result<(), AllocError>
+    ensures exact { OnOk result (string_bytes out.new
+        ≡ string_bytes out.old ++ compact_text (conflict_data facts.now «axiom» member)) }
 {
-    let facts = ids_value(alloc, facts.as_slice())?;
-    json!(in alloc; {"facts": facts, "k": "conflict", "member": member, "of": axiom})
+    out.push_str(r#"{"facts":"#)?;
+    put_ids(out, facts.as_slice())?;
+    out.push_str(r#","k":"conflict","member":"#)?;
+    put_id(out, member)?;
+    out.push_str(r#","of":"#)?;
+    put_id(out, axiom)?;
+    out.push_str("}")?;
+    Ok(())
+}
+
+/// The conflict behind the key `facts`, where it is of one or two facts.
+pub fn conflict_in(alloc: Global, text: &mut Cursor<'_>) -> Result<Option<Line>, NoMemory>
+    ensures right { IfOk result (λ o. IfSome o IsWellFormed) }
+{
+    let Some(facts) = text.ids(alloc)? else {
+        return Ok(None);
+    };
+    text.takes(r#","k":"conflict","member":"#);
+    let Some(member) = text.id() else {
+        return Ok(None);
+    };
+    text.takes(r#","of":"#);
+    let Some(axiom) = text.id() else {
+        return Ok(None);
+    };
+    if is_one_or_two(facts.len()) {
+        Ok(Some(Line::Conflict {
+            facts,
+            axiom,
+            member,
+        }))
+    } else {
+        Ok(None)
+    }
 }
 
 /// The conflict whose fields the value has, where it is of one or two facts.

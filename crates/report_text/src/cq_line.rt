@@ -1,75 +1,97 @@
 //! A query of a closure, with the move that made it.
 
-ghost use Rattle.std.specs.Prelude.{◌≡◌, IfOk};
+ghost use Rattle.std.specs.Prelude.{◌≡◌, ◌++◌, OnOk, IfOk, string_bytes, codes, decimal};
 ghost use Rattle.serde_json.specs.View.{view};
+ghost use Rattle.serde_json.specs.Written.{compact_text};
 ghost use Rattle.report_text.specs.CqLine.{origin_data, move_data, move_data_of, parent_data, cq_data, origin_of, origin_at, axiom_move_of, reduce_move_of, move_of_kind, move_of, step_of, step_at, query_at, cq_at};
 
-use crate::atoms::{atoms_at, atoms_value, terms_at, terms_value};
-use crate::fields::{id_in, id_of, word_in};
+use crate::atoms::{atoms_at, put_atoms, put_terms, terms_at};
+use crate::fields::{id_in, id_of, put_id, word_in};
 use crate::safe_query::if_safe;
 use crate::{Line, Origin};
 use cq_steps::Move;
 use cq_terms::{Cq, NoMemory};
-use serde_json::{Value, json};
+use serde_json::Value;
 use std::alloc::{AllocError, Global};
 
-/// The query as JSON.
-pub fn cq_value(
-    alloc: Global,
+/// Appends the query's text.
+pub fn put_cq(
+    out: &mut String,
     origin: Origin,
     query: &Cq,
     step: Option<(u32, Move)>,
-) -> Result<Value, AllocError>
-    ensures exact { IfOk result (λ v. view v ≡ cq_data origin query.now step) }
+) -> Result<(), AllocError>
+    ensures exact { OnOk result (string_bytes out.new
+        ≡ string_bytes out.old ++ compact_text (cq_data origin query.now step)) }
 {
-    let body = atoms_value(alloc, query.body())?;
-    let head = terms_value(alloc, query.head())?;
-    let made_by = move_value_of(alloc, step)?;
-    let origin = origin_value(alloc, origin)?;
-    let parent = parent_value(step);
-    json!(in alloc; {
-        "body": body,
-        "head": head,
-        "k": "cq",
-        "move": made_by,
-        "of": origin,
-        "parent": parent
-    })
+    out.push_str(r#"{"body":"#)?;
+    put_atoms(out, query.body())?;
+    out.push_str(r#","head":"#)?;
+    put_terms(out, query.head())?;
+    out.push_str(r#","k":"cq","move":"#)?;
+    put_move_of(out, step)?;
+    out.push_str(r#","of":"#)?;
+    put_origin(out, origin)?;
+    out.push_str(r#","parent":"#)?;
+    put_parent(out, step)?;
+    out.push_str("}")?;
+    Ok(())
 }
 
-fn origin_value(alloc: Global, origin: Origin) -> Result<Value, AllocError>
-    ensures exact { IfOk result (λ v. view v ≡ origin_data origin) }
+#[tactic(auto, unfolding(json::specs::Print::escape_byte))]
+fn put_origin(out: &mut String, origin: Origin) -> Result<(), AllocError>
+    ensures exact { OnOk result (string_bytes out.new
+        ≡ string_bytes out.old ++ compact_text (origin_data origin)) }
 {
     match origin {
-        Origin::Query => json!(in alloc; "query"),
-        Origin::Negative(axiom) => Ok(Value::from(axiom)),
+        Origin::Query => out.push_str(r#""query""#),
+        Origin::Negative(axiom) => put_id(out, axiom),
     }
 }
 
-fn move_value(alloc: Global, made_by: Move) -> Result<Value, AllocError>
-    ensures exact { IfOk result (λ v. view v ≡ move_data made_by) }
+#[tactic(auto, unfolding(json::specs::Print::escape_byte))]
+fn put_move(out: &mut String, made_by: Move) -> Result<(), AllocError>
+    ensures exact { OnOk result (string_bytes out.new
+        ≡ string_bytes out.old ++ compact_text (move_data made_by)) }
 {
     match made_by {
-        Move::Axiom { atom, axiom } => json!(in alloc; ["axiom", atom, axiom]),
-        Move::Reduce { first, second } => json!(in alloc; ["reduce", first, second]),
+        Move::Axiom { atom, axiom } => put_move_of_kind(out, "axiom", atom, axiom),
+        Move::Reduce { first, second } => put_move_of_kind(out, "reduce", first, second),
     }
 }
 
-fn move_value_of(alloc: Global, step: Option<(u32, Move)>) -> Result<Value, AllocError>
-    ensures exact { IfOk result (λ v. view v ≡ move_data_of step) }
+/// Appends an array of the word that names the kind and the two numbers of the move.
+fn put_move_of_kind(out: &mut String, word: &str, first: u32, second: u32) -> Result<(), AllocError>
+    ensures exact { OnOk result (string_bytes out.new ≡ string_bytes out.old ++ (codes "[\"" ++ (word.now
+        ++ (codes "\"," ++ (decimal first ++ (codes "," ++ (decimal second ++ codes "]"))))))) }
+{
+    out.push_str(r#"[""#)?;
+    out.push_str(word)?;
+    out.push_str(r#"","#)?;
+    put_id(out, first)?;
+    out.push(',')?;
+    put_id(out, second)?;
+    out.push(']')?;
+    Ok(())
+}
+
+fn put_move_of(out: &mut String, step: Option<(u32, Move)>) -> Result<(), AllocError>
+    ensures exact { OnOk result (string_bytes out.new
+        ≡ string_bytes out.old ++ compact_text (move_data_of step)) }
 {
     match step {
-        Some((_, made_by)) => move_value(alloc, made_by),
-        None => Ok(Value::Null),
+        Some((_, made_by)) => put_move(out, made_by),
+        None => out.push_str("null"),
     }
 }
 
-fn parent_value(step: Option<(u32, Move)>) -> Value
-    ensures exact { view result ≡ parent_data step }
+fn put_parent(out: &mut String, step: Option<(u32, Move)>) -> Result<(), AllocError>
+    ensures exact { OnOk result (string_bytes out.new
+        ≡ string_bytes out.old ++ compact_text (parent_data step)) }
 {
     match step {
-        Some((parent, _)) => Value::from(parent),
-        None => Value::Null,
+        Some((parent, _)) => put_id(out, parent),
+        None => out.push_str("null"),
     }
 }
 

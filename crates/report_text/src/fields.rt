@@ -1,67 +1,167 @@
 //! What lines are made of as JSON: numbers, words, and arrays of numbers and of texts.
 
-ghost use Rattle.std.specs.Prelude.{◌≡◌, IfOk, option_map};
+ghost use Rattle.std.specs.Prelude.{◌≡◌, ◌++◌, ◌∷◌, [], OnOk, IfOk, option_map};
+ghost use Rattle.serde_json.specs.Data.{string};
 ghost use Rattle.serde_json.specs.Find.{as_array};
 ghost use Rattle.serde_json.specs.View.{view, items_view};
-ghost use Rattle.report_text.specs.Fields.{numbers_data, lists_data, long_or_null_data, texts_data, long_of, long_or_null, id_of, ids_of, text_in, id_in, word_in, long_at, long_or_null_at, id_at, word_at, items_at, longs_at, ids_at, id_lists_at, texts_at};
+ghost use Rattle.serde_json.specs.Written.{comma_if, compact_text};
+ghost use Rattle.report_text.specs.Fields.{number_data, needs_no_escape, stands_for_itself, numbers_data, lists_data, long_or_null_data, texts_data, long_of, long_or_null, id_of, ids_of, text_in, id_in, word_in, long_at, long_or_null_at, id_at, word_at, items_at, longs_at, ids_at, id_lists_at, texts_at};
 ghost use Rattle.std.specs.Prelude.{map, string_bytes};
 
 use cq_terms::{IdLists, Ids, Longs, NoMemory, Texts};
+use itoa::Buffer;
 use serde_json::Value;
 use std::alloc::{AllocError, Global};
 
-/// An array of numbers below 2^32.
-pub fn ids_value(alloc: Global, ids: &[u32]) -> Result<Value, AllocError>
-    ensures exact { IfOk result (λ v. view v ≡ numbers_data ids.now) }
+/// Appends a comma, where something stands before.
+pub fn put_comma_if(out: &mut String, later: bool) -> Result<(), AllocError>
+    ensures exact { OnOk result (string_bytes out.new ≡ string_bytes out.old ++ comma_if later) }
 {
-    let mut items = Vec::new(alloc);
+    if later {
+        out.push(',')?;
+    }
+    Ok(())
+}
+
+/// Appends a number below 2^32.
+pub fn put_id(out: &mut String, id: u32) -> Result<(), AllocError>
+    ensures exact { OnOk result (string_bytes out.new
+        ≡ string_bytes out.old ++ compact_text (number_data id)) }
+{
+    let mut digits = Buffer::new();
+    out.push_str(digits.format(id))?;
+    Ok(())
+}
+
+/// Appends a number below 2^64.
+pub fn put_long(out: &mut String, long: u64) -> Result<(), AllocError>
+    ensures exact { OnOk result (string_bytes out.new
+        ≡ string_bytes out.old ++ compact_text (number_data long)) }
+{
+    let mut digits = Buffer::new();
+    out.push_str(digits.format(long))?;
+    Ok(())
+}
+
+/// Appends an array of numbers below 2^32.
+pub fn put_ids(out: &mut String, ids: &[u32]) -> Result<(), AllocError>
+    ensures exact { OnOk result (string_bytes out.new
+        ≡ string_bytes out.old ++ compact_text (numbers_data ids.now)) }
+{
+    out.push('[')?;
+    let mut later = false;
     for id in ids {
-        items.push(Value::from(*id))?;
+        put_comma_if(out, later)?;
+        put_id(out, *id)?;
+        later = true;
     }
-    Ok(Value::Array(items))
+    out.push(']')?;
+    Ok(())
 }
 
-/// An array of numbers below 2^64.
-pub fn longs_value(alloc: Global, longs: &[u64]) -> Result<Value, AllocError>
-    ensures exact { IfOk result (λ v. view v ≡ numbers_data longs.now) }
+/// Appends an array of numbers below 2^64.
+pub fn put_longs(out: &mut String, longs: &[u64]) -> Result<(), AllocError>
+    ensures exact { OnOk result (string_bytes out.new
+        ≡ string_bytes out.old ++ compact_text (numbers_data longs.now)) }
 {
-    let mut items = Vec::new(alloc);
+    out.push('[')?;
+    let mut later = false;
     for long in longs {
-        items.push(Value::from(*long))?;
+        put_comma_if(out, later)?;
+        put_long(out, *long)?;
+        later = true;
     }
-    Ok(Value::Array(items))
+    out.push(']')?;
+    Ok(())
 }
 
-/// An array of arrays of numbers below 2^32.
-pub fn id_lists_value(alloc: Global, lists: &[Ids]) -> Result<Value, AllocError>
-    ensures exact { IfOk result (λ v. view v ≡ lists_data lists.now) }
+/// Appends an array of arrays of numbers below 2^32.
+pub fn put_id_lists(out: &mut String, lists: &[Ids]) -> Result<(), AllocError>
+    ensures exact { OnOk result (string_bytes out.new
+        ≡ string_bytes out.old ++ compact_text (lists_data lists.now)) }
 {
-    let mut items = Vec::new(alloc);
+    out.push('[')?;
+    let mut later = false;
     for list in lists {
-        items.push(ids_value(alloc, list.as_slice())?)?;
+        put_comma_if(out, later)?;
+        put_ids(out, list.as_slice())?;
+        later = true;
     }
-    Ok(Value::Array(items))
+    out.push(']')?;
+    Ok(())
 }
 
-/// A number below 2^64, or null for none.
-pub fn long_or_null_value(long: Option<u64>) -> Value
-    ensures exact { view result ≡ long_or_null_data long }
+/// Appends a number below 2^64, or null for none.
+pub fn put_long_or_null(out: &mut String, long: Option<u64>) -> Result<(), AllocError>
+    ensures exact { OnOk result (string_bytes out.new
+        ≡ string_bytes out.old ++ compact_text (long_or_null_data long)) }
 {
     match long {
-        Some(long) => Value::from(long),
-        None => Value::Null,
+        Some(long) => put_long(out, long),
+        None => out.push_str("null"),
     }
 }
 
-/// An array of texts.
-pub fn texts_value(alloc: Global, texts: &[String]) -> Result<Value, AllocError>
-    ensures exact { IfOk result (λ v. view v ≡ texts_data (map string_bytes texts.now)) }
+/// Appends an array of texts.
+pub fn put_texts(out: &mut String, texts: &[String]) -> Result<(), AllocError>
+    ensures exact { OnOk result (string_bytes out.new
+        ≡ string_bytes out.old ++ compact_text (texts_data (map string_bytes texts.now))) }
 {
-    let mut items = Vec::new(alloc);
+    out.push('[')?;
+    let mut later = false;
     for text in texts {
-        items.push(Value::String(String::from_str(alloc, text.as_str())?))?;
+        put_comma_if(out, later)?;
+        put_text(out, text.as_str())?;
+        later = true;
     }
-    Ok(Value::Array(items))
+    out.push(']')?;
+    Ok(())
+}
+
+/// Appends a text between quotes, with the escapes that it needs.
+fn put_text(out: &mut String, text: &str) -> Result<(), AllocError>
+    ensures exact { OnOk result (string_bytes out.new
+        ≡ string_bytes out.old ++ compact_text (string text.now)) }
+{
+    if needs_no_escape(text) {
+        put_plain_text(out, text)
+    } else {
+        put_escaped_text(out, text)
+    }
+}
+
+fn put_plain_text(out: &mut String, text: &str) -> Result<(), AllocError>
+    ensures exact { OnOk result (string_bytes out.new
+        ≡ string_bytes out.old ++ 34 ∷ (text.now ++ 34 ∷ [])) }
+{
+    out.push('"')?;
+    out.push_str(text)?;
+    out.push('"')?;
+    Ok(())
+}
+
+fn put_escaped_text(out: &mut String, text: &str) -> Result<(), AllocError>
+    ensures exact { OnOk result (string_bytes out.new
+        ≡ string_bytes out.old ++ compact_text (string text.now)) }
+{
+    let alloc = *out.allocator();
+    let value = Value::String(String::from_str(alloc, text)?);
+    let quoted = value.to_string(alloc)?;
+    out.push_str(quoted.as_str())?;
+    Ok(())
+}
+
+/// Whether JSON has the text between quotes as it is.
+fn needs_no_escape(text: &str) -> bool
+    ensures exact { result ≡ needs_no_escape text.now }
+{
+    text.as_bytes().iter().all(|byte| stands_for_itself(*byte))
+}
+
+fn stands_for_itself(byte: u8) -> bool
+    ensures exact { result ≡ stands_for_itself byte }
+{
+    byte >= 32 && byte != b'"' && byte != b'\\'
 }
 
 /// The value as a number below 2^64.

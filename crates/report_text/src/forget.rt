@@ -1,21 +1,38 @@
 //! Learned clauses that are no longer used.
 
-ghost use Rattle.std.specs.Prelude.{◌≡◌, IfOk};
+ghost use Rattle.std.specs.Prelude.{◌≡◌, ◌++◌, OnOk, IfOk, IfSome, string_bytes};
 ghost use Rattle.serde_json.specs.View.{view};
+ghost use Rattle.serde_json.specs.Written.{compact_text};
 ghost use Rattle.report_text.specs.ForgetLine.{forget_data, forget_at};
+ghost use Rattle.report_text.specs.Lines.{IsWellFormed};
 
 use crate::Line;
-use crate::fields::{longs_at, longs_value};
+use crate::cursor::Cursor;
+use crate::fields::{longs_at, put_longs};
 use cq_terms::{Longs, NoMemory};
-use serde_json::{Value, json};
+use serde_json::Value;
 use std::alloc::{AllocError, Global};
 
-/// The forgotten clauses as JSON.
-pub fn forget_value(alloc: Global, clauses: &Longs) -> Result<Value, AllocError>
-    ensures exact { IfOk result (λ v. view v ≡ forget_data clauses.now) }
+/// Appends the text of the forgotten clauses.
+#[tactic(auto, unfolding(json::specs::Print::escape_byte))]
+pub fn put_forget(out: &mut String, clauses: &Longs) -> Result<(), AllocError>
+    ensures exact { OnOk result (string_bytes out.new
+        ≡ string_bytes out.old ++ compact_text (forget_data clauses.now)) }
 {
-    let clauses = longs_value(alloc, clauses.as_slice())?;
-    json!(in alloc; {"clauses": clauses, "k": "forget"})
+    out.push_str(r#"{"clauses":"#)?;
+    put_longs(out, clauses.as_slice())?;
+    out.push_str(r#","k":"forget"}"#)?;
+    Ok(())
+}
+
+/// The forgotten clauses behind the key `clauses`.
+pub fn forget_in(alloc: Global, text: &mut Cursor<'_>) -> Result<Option<Line>, NoMemory>
+    ensures right { IfOk result (λ o. IfSome o IsWellFormed) }
+{
+    let Some(clauses) = text.longs(alloc)? else {
+        return Ok(None);
+    };
+    Ok(Some(Line::Forget { clauses }))
 }
 
 /// The forgotten clauses whose numbers the value has.

@@ -1,39 +1,46 @@
 //! The head: the sizes of the input, the options, and the version of the form.
 
-ghost use Rattle.std.specs.Prelude.{◌≡◌, IfOk};
+ghost use Rattle.std.specs.Prelude.{◌≡◌, ◌++◌, OnOk, IfOk, string_bytes};
+ghost use Rattle.serde_json.specs.Data.{string};
 ghost use Rattle.serde_json.specs.View.{view};
+ghost use Rattle.serde_json.specs.Written.{compact_text};
 ghost use Rattle.report_text.specs.HeadLine.{is_known_version, repairs_word, head_data, repairs_of, head_at};
 
 use crate::Line;
-use crate::fields::{id_at, long_at, word_at};
+use crate::fields::{id_at, long_at, put_id, put_long, word_at};
 use cq_terms::Repairs;
-use serde_json::{Value, json};
-use std::alloc::{AllocError, Global};
+use serde_json::Value;
+use std::alloc::AllocError;
 
 const KNOWN_VERSIONS: [u32; 2] = [0, 1];
 
-/// The head as JSON.
-pub fn head_value(
-    alloc: Global,
+/// Appends the head's text.
+pub fn put_head(
+    out: &mut String,
     axioms: u32,
     budget: u64,
     facts: u32,
     keep: u64,
     repairs: Repairs,
     version: u32,
-) -> Result<Value, AllocError>
-    ensures exact { IfOk result (λ v. view v ≡ head_data axioms budget facts keep repairs version) }
+) -> Result<(), AllocError>
+    ensures exact { OnOk result (string_bytes out.new ≡ string_bytes out.old
+        ++ compact_text (head_data axioms budget facts keep repairs version)) }
 {
-    let word = repairs_word(repairs);
-    json!(in alloc; {
-        "axioms": axioms,
-        "budget": budget,
-        "facts": facts,
-        "k": "head",
-        "keep": keep,
-        "repairs": word,
-        "version": version
-    })
+    out.push_str(r#"{"axioms":"#)?;
+    put_id(out, axioms)?;
+    out.push_str(r#","budget":"#)?;
+    put_long(out, budget)?;
+    out.push_str(r#","facts":"#)?;
+    put_id(out, facts)?;
+    out.push_str(r#","k":"head","keep":"#)?;
+    put_long(out, keep)?;
+    out.push_str(r#","repairs":"#)?;
+    out.push_str(repairs_text(repairs))?;
+    out.push_str(r#","version":"#)?;
+    put_id(out, version)?;
+    out.push_str("}")?;
+    Ok(())
 }
 
 /// The head whose fields the value has.
@@ -65,12 +72,14 @@ fn is_known_version(version: u32) -> bool
     KNOWN_VERSIONS.contains(&version)
 }
 
-fn repairs_word(repairs: Repairs) -> &'static str
-    ensures exact { result.now ≡ repairs_word repairs }
+/// The word for the repairs, between quotes.
+#[tactic(auto, unfolding(json::specs::Print::escape_byte))]
+fn repairs_text(repairs: Repairs) -> &'static str
+    ensures exact { result.now ≡ compact_text (string (repairs_word repairs)) }
 {
     match repairs {
-        Repairs::All => "all",
-        Repairs::Pareto => "pareto",
+        Repairs::All => r#""all""#,
+        Repairs::Pareto => r#""pareto""#,
     }
 }
 

@@ -7,10 +7,12 @@ ghost use Rattle.report_text.specs.Lines.{IsWellFormed};
 ghost use Rattle.report_text.specs.Reports.{has_failed, torn_after, AddsLine, StayTold};
 ghost use Rattle.report_text.specs.LineBytes.{line_bytes, WritesLine, AreBytesOf, lines_told, line_kept};
 
-use crate::{Line, LineFault, Report, print};
+use crate::printing::put_line;
+use crate::{Line, LineFault, Report};
 use cq_io::Sink;
 use cq_terms::NoMemory;
 use std::alloc::Global;
+use std::mem;
 
 /// A report over a sink, to which each line goes by one write, as its text and a line feed.
 ///
@@ -21,6 +23,8 @@ use std::alloc::Global;
 pub struct LineSink<'a, O> {
     alloc: Global,
     sink: &'a mut O,
+    // The bytes of the last line. They are emptied for the next one, which then seldom wants memory.
+    text: String,
     // The text of the torn line.
     torn: Option<String>,
 }
@@ -41,6 +45,7 @@ impl<'a, O: Sink> LineSink<'a, O> {
         LineSink {
             alloc,
             sink,
+            text: String::new(alloc),
             torn: None,
         }
     }
@@ -83,24 +88,26 @@ impl<O: Sink> Report for LineSink<'_, O> {
             (lines_told (O.written self.new.sink.now) (line_kept self.new.torn))) }
         ensures same_target { self.new.sink.ghost_name ≡ self.old.sink.ghost_name }
     {
-        let mut text = print_with_line_feed(self.alloc, line)?;
-        match self.sink.write_all(text.as_bytes()) {
+        make_bytes_of(&mut self.text, line)?;
+        match self.sink.write_all(self.text.as_bytes()) {
             Ok(()) => Ok(()),
             Err(_) => {
-                text.pop();
-                self.torn = Some(text);
+                self.text.pop();
+                self.torn = Some(mem::replace(&mut self.text, String::new(self.alloc)));
                 Err(LineFault::Failed)
             }
         }
     }
 }
 
-fn print_with_line_feed(alloc: Global, line: &Line) -> Result<String, NoMemory>
-    ensures exact { IfOk result (λ text. string_bytes text ≡ line_bytes line.now) }
+/// Makes the text the bytes of a line, in the memory that it has.
+fn make_bytes_of(text: &mut String, line: &Line) -> Result<(), NoMemory>
+    ensures exact { OnOk result (string_bytes text.new ≡ line_bytes line.now) }
 {
-    let mut text = print(alloc, line)?;
+    text.clear();
+    put_line(text, line)?;
     text.push('\n')?;
-    Ok(text)
+    Ok(())
 }
 
 /// The lines that a sink's bytes tell are the well-formed ones whose bytes they are, before a part of

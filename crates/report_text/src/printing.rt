@@ -1,36 +1,40 @@
-//! Lines printed.
+//! Lines printed, piece by piece.
 
-ghost use Rattle.std.specs.Prelude.{◌≡◌, IfOk, string_bytes};
-ghost use Rattle.serde_json.specs.View.{view};
-ghost use Rattle.report_text.specs.Lines.{data_of, text_of};
+ghost use Rattle.std.specs.Prelude.{◌≡◌, ◌++◌, OnOk, IfOk, string_bytes};
+ghost use Rattle.report_text.specs.Lines.{text_of};
 
 use crate::Line;
-use crate::answer::answer_value;
-use crate::ask::ask_value;
-use crate::conflict::conflict_value;
-use crate::core_line::core_value;
-use crate::cq_line::cq_value;
-use crate::done::done_value;
-use crate::end::end_value;
-use crate::forget::forget_value;
-use crate::head::head_value;
-use crate::learn::learn_value;
-use crate::try_line::try_value;
+use crate::answer::put_answer;
+use crate::ask::put_ask;
+use crate::conflict::put_conflict;
+use crate::core_line::put_core;
+use crate::cq_line::put_cq;
+use crate::done::put_done;
+use crate::end::put_end;
+use crate::forget::put_forget;
+use crate::head::put_head;
+use crate::learn::put_learn;
+use crate::try_line::put_try;
 use cq_terms::NoMemory;
-use serde_json::Value;
 use std::alloc::{AllocError, Global};
+
+// The bytes of most lines fit into this room.
+const USUAL_ROOM: usize = 128;
 
 /// The text of a line, without the line feed: the compact JSON text of an object with the keys of the
 /// line's kind.
 pub fn print(alloc: Global, line: &Line) -> Result<String, NoMemory>
     ensures exact { IfOk result (λ text. string_bytes text ≡ text_of line.now) }
 {
-    let value = value_of(alloc, line)?;
-    Ok(value.to_string(alloc)?)
+    let mut text = String::with_capacity(alloc, USUAL_ROOM)?;
+    put_line(&mut text, line)?;
+    Ok(text)
 }
 
-fn value_of(alloc: Global, line: &Line) -> Result<Value, AllocError>
-    ensures exact { IfOk result (λ v. view v ≡ data_of line.now) }
+/// Appends the text of a line, without the line feed.
+#[tactic(auto, unfolding(crate::specs::Lines::text_of))]
+pub fn put_line(out: &mut String, line: &Line) -> Result<(), AllocError>
+    ensures exact { OnOk result (string_bytes out.new ≡ string_bytes out.old ++ text_of line.now) }
 {
     match line {
         Line::Head {
@@ -40,32 +44,32 @@ fn value_of(alloc: Global, line: &Line) -> Result<Value, AllocError>
             keep,
             repairs,
             version,
-        } => head_value(alloc, *axioms, *budget, *facts, *keep, *repairs, *version),
+        } => put_head(out, *axioms, *budget, *facts, *keep, *repairs, *version),
         Line::Cq {
             origin,
             query,
             step,
-        } => cq_value(alloc, *origin, query, *step),
+        } => put_cq(out, *origin, query, *step),
         Line::Conflict {
             facts,
             axiom,
             member,
-        } => conflict_value(alloc, facts, *axiom, *member),
+        } => put_conflict(out, facts, *axiom, *member),
         Line::Ask {
             candidate,
             tuple,
             causes,
             members,
-        } => ask_value(alloc, *candidate, tuple, causes, members),
-        Line::Try { question, assume } => try_value(alloc, *question, assume),
-        Line::Learn { number, clause } => learn_value(alloc, *number, clause),
+        } => put_ask(out, *candidate, tuple, causes, members),
+        Line::Try { question, assume } => put_try(out, *question, assume),
+        Line::Learn { number, clause } => put_learn(out, *number, clause),
         Line::Core {
             number,
             kept,
             dropped,
-        } => core_value(alloc, *number, kept, dropped),
-        Line::Done { how, core } => done_value(alloc, *how, *core),
-        Line::Forget { clauses } => forget_value(alloc, clauses),
+        } => put_core(out, *number, kept, dropped),
+        Line::Done { how, core } => put_done(out, *how, *core),
+        Line::Forget { clauses } => put_forget(out, clauses),
         Line::Answer {
             brave,
             ar,
@@ -73,13 +77,13 @@ fn value_of(alloc: Global, line: &Line) -> Result<Value, AllocError>
             cores,
             names,
             tuple,
-        } => answer_value(alloc, *brave, *ar, *iar, cores, names, tuple),
+        } => put_answer(out, *brave, *ar, *iar, cores, names, tuple),
         Line::End {
             answers,
             brave,
             ar,
             iar,
             undecided,
-        } => end_value(alloc, *answers, *brave, *ar, *iar, *undecided),
+        } => put_end(out, *answers, *brave, *ar, *iar, *undecided),
     }
 }

@@ -1,6 +1,7 @@
 //! Lines read.
 
-ghost use Rattle.std.specs.Prelude.{◌≡◌, IfOk, IsErrOf, Contains};
+ghost use Rattle.std.specs.Prelude.{◌≡◌, IfOk, IfSome, IsErrOf, Contains};
+ghost use Rattle.std.specs.Str.{bytes_eq};
 ghost use Rattle.serde_json.specs.Errors.{IsMemory};
 ghost use Rattle.serde_json.specs.View.{view};
 ghost use Rattle.report_text.specs.declared.line.Line.{Line};
@@ -8,19 +9,20 @@ ghost use Rattle.report_text.specs.declared.reading.ReadRefusal.TheVariants as r
 ghost use Rattle.report_text.specs.Lines.{IsWellFormed, text_of, line_of_kind, line_at, line_of};
 
 use crate::Line;
-use crate::answer::answer_at;
-use crate::ask::ask_at;
-use crate::conflict::conflict_at;
-use crate::core_line::core_at;
+use crate::answer::{answer_at, answer_in};
+use crate::ask::{ask_at, ask_in};
+use crate::conflict::{conflict_at, conflict_in};
+use crate::core_line::{core_at, core_in};
 use crate::cq_line::cq_at;
-use crate::done::done_at;
+use crate::cursor::Cursor;
+use crate::done::{done_at, done_in};
 use crate::end::end_at;
 use crate::fields::word_at;
-use crate::forget::forget_at;
+use crate::forget::{forget_at, forget_in};
 use crate::head::head_at;
-use crate::learn::learn_at;
-use crate::printing::print;
-use crate::try_line::try_at;
+use crate::learn::{learn_at, learn_in};
+use crate::printing::put_line;
+use crate::try_line::{try_at, try_in};
 use cq_terms::NoMemory;
 use serde_json::{Error, Value};
 use std::alloc::Global;
@@ -50,6 +52,31 @@ pub fn read(alloc: Global, bytes: &[u8]) -> Result<Line, ReadRefusal>
     ensures bad_line { IsErrOf result ReadRefusal.BadLine
         → (line : Line) → IsWellFormed line → ¬ (bytes.now ≡ text_of line) }
 {
+    match read_at_once(alloc, bytes)? {
+        Some(line) => Ok(line),
+        None => read_by_value(alloc, bytes),
+    }
+}
+
+/// The line whose text the bytes are, where it is found with no JSON value: it is of one of the kinds
+/// that are many, and no name needs an escape.
+fn read_at_once(alloc: Global, bytes: &[u8]) -> Result<Option<Line>, NoMemory>
+    ensures exact { IfOk result
+        (λ o. IfSome o (λ line. IsWellFormed line × (bytes.now ≡ text_of line))) }
+{
+    let Some(line) = line_in(alloc, bytes)? else {
+        return Ok(None);
+    };
+    let same = has_text(alloc, &line, bytes)?;
+    if same { Ok(Some(line)) } else { Ok(None) }
+}
+
+/// The line whose text the bytes are, of any kind.
+fn read_by_value(alloc: Global, bytes: &[u8]) -> Result<Line, ReadRefusal>
+    ensures exact { IfOk result (λ line. IsWellFormed line × (bytes.now ≡ text_of line)) }
+    ensures bad_line { IsErrOf result ReadRefusal.BadLine
+        → (line : Line) → IsWellFormed line → ¬ (bytes.now ≡ text_of line) }
+{
     let value = match Value::from_slice(alloc, bytes) {
         Ok(value) => value,
         Err(error) => return Err(refusal_of(&error)),
@@ -57,11 +84,45 @@ pub fn read(alloc: Global, bytes: &[u8]) -> Result<Line, ReadRefusal>
     let Some(line) = line_at(alloc, &value)? else {
         return Err(ReadRefusal::BadLine);
     };
-    let text = print(alloc, &line)?;
-    if text.as_bytes() == bytes {
+    let same = has_text(alloc, &line, bytes)?;
+    if same {
         Ok(line)
     } else {
         Err(ReadRefusal::BadLine)
+    }
+}
+
+fn has_text(alloc: Global, line: &Line, bytes: &[u8]) -> Result<bool, NoMemory>
+    ensures exact { IfOk result (λ b. b ≡ bytes_eq (text_of line.now) bytes.now) }
+{
+    let mut text = String::with_capacity(alloc, bytes.len())?;
+    put_line(&mut text, line)?;
+    Ok(text.as_bytes() == bytes)
+}
+
+/// A line of the kind with whose first key the bytes begin.
+fn line_in(alloc: Global, bytes: &[u8]) -> Result<Option<Line>, NoMemory>
+    ensures right { IfOk result (λ o. IfSome o IsWellFormed) }
+{
+    let text = &mut Cursor::new(bytes);
+    if text.takes(r#"{"assume":"#) {
+        try_in(alloc, text)
+    } else if text.takes(r#"{"dropped":"#) {
+        core_in(alloc, text)
+    } else if text.takes(r#"{"core":"#) {
+        Ok(done_in(text))
+    } else if text.takes(r#"{"ar":"#) {
+        answer_in(alloc, text)
+    } else if text.takes(r#"{"candidate":"#) {
+        ask_in(alloc, text)
+    } else if text.takes(r#"{"clause":"#) {
+        learn_in(alloc, text)
+    } else if text.takes(r#"{"clauses":"#) {
+        forget_in(alloc, text)
+    } else if text.takes(r#"{"facts":"#) {
+        conflict_in(alloc, text)
+    } else {
+        Ok(None)
     }
 }
 

@@ -1,22 +1,45 @@
 //! A try: what is assumed for a question.
 
-ghost use Rattle.std.specs.Prelude.{◌≡◌, IfOk};
+ghost use Rattle.std.specs.Prelude.{◌≡◌, ◌++◌, OnOk, IfOk, IfSome, string_bytes};
+ghost use Rattle.serde_json.specs.Data.{string};
 ghost use Rattle.serde_json.specs.View.{view};
+ghost use Rattle.serde_json.specs.Written.{compact_text};
 ghost use Rattle.report_text.specs.TryLine.{question_word, question_of, question_at, try_data, try_at};
+ghost use Rattle.report_text.specs.Lines.{IsWellFormed};
 
-use crate::fields::{ids_at, ids_value, word_at};
+use crate::cursor::Cursor;
+use crate::fields::{ids_at, put_ids, word_at};
 use crate::{Line, Question};
 use cq_terms::{Ids, NoMemory};
-use serde_json::{Value, json};
+use serde_json::Value;
 use std::alloc::{AllocError, Global};
 
-/// The try as JSON.
-pub fn try_value(alloc: Global, question: Question, assume: &Ids) -> Result<Value, AllocError>
-    ensures exact { IfOk result (λ v. view v ≡ try_data question assume.now) }
+/// Appends the try's text.
+pub fn put_try(out: &mut String, question: Question, assume: &Ids) -> Result<(), AllocError>
+    ensures exact { OnOk result (string_bytes out.new
+        ≡ string_bytes out.old ++ compact_text (try_data question assume.now)) }
 {
-    let assume = ids_value(alloc, assume.as_slice())?;
-    let word = question_word(question);
-    json!(in alloc; {"assume": assume, "k": "try", "q": word})
+    out.push_str(r#"{"assume":"#)?;
+    put_ids(out, assume.as_slice())?;
+    out.push_str(r#","k":"try","q":"#)?;
+    out.push_str(question_text(question))?;
+    out.push_str("}")?;
+    Ok(())
+}
+
+/// The try behind the key `assume`.
+pub fn try_in(alloc: Global, text: &mut Cursor<'_>) -> Result<Option<Line>, NoMemory>
+    ensures right { IfOk result (λ o. IfSome o IsWellFormed) }
+{
+    let Some(assume) = text.ids(alloc)? else {
+        return Ok(None);
+    };
+    text.takes(r#","k":"try","q":"#);
+    let Some(question) = question_in(text) else {
+        return Ok(None);
+    };
+    text.takes("}");
+    Ok(Some(Line::Try { question, assume }))
 }
 
 /// The try whose fields the value has.
@@ -32,13 +55,15 @@ pub fn try_at(alloc: Global, value: &Value) -> Result<Option<Line>, NoMemory>
     Ok(Some(Line::Try { question, assume }))
 }
 
-fn question_word(question: Question) -> &'static str
-    ensures exact { result.now ≡ question_word question }
+/// The word for a question, between quotes.
+#[tactic(auto, unfolding(json::specs::Print::escape_byte))]
+fn question_text(question: Question) -> &'static str
+    ensures exact { result.now ≡ compact_text (string (question_word question)) }
 {
     match question {
-        Question::Brave => "brave",
-        Question::Iar => "iar",
-        Question::Ar => "ar",
+        Question::Brave => r#""brave""#,
+        Question::Iar => r#""iar""#,
+        Question::Ar => r#""ar""#,
     }
 }
 
@@ -57,4 +82,16 @@ fn question_at(value: &Value) -> Option<Question>
     ensures exact { result ≡ question_at (view value.now) }
 {
     question_of(word_at(value, "q")?)
+}
+
+fn question_in(text: &mut Cursor<'_>) -> Option<Question> {
+    if text.takes(r#""brave""#) {
+        Some(Question::Brave)
+    } else if text.takes(r#""iar""#) {
+        Some(Question::Iar)
+    } else if text.takes(r#""ar""#) {
+        Some(Question::Ar)
+    } else {
+        None
+    }
 }

@@ -1,120 +1,155 @@
--- Marks that grow by what the live clauses force.
-use Rattle.std.proofs.Common.{◌≡◌, ℕ, ◌<◌, ◌≤◌, ◌+◌, ◌⊎◌, inl, inr, List, [], length, take, get_or, set, cond, Bool, true, false, refl, sym, subst, ◌∙◌, arith}
-use Rattle.std.proofs.lemmas.Bool.{false_from_ne_true, true≢false}
-use Rattle.std.proofs.lemmas.List.{length-set}
-use Rattle.std.proofs.lemmas.List.Sums.{sum_by-set}
+-- Marks that grow by what the live clauses force, and clauses that rest.
+use Rattle.std.proofs.Common.{◌≡◌, ℕ, ◌<◌, ◌+◌, ◌⊎◌, inl, inr, ◌↔◌, List, [], ◌∷◌, ◌++◌, length, take, get_or, Contains, Option, append_assoc, sym, subst, ap, ◌∙◌, rules}
+use Rattle.std.proofs.lemmas.Bool.{cases_eq}
+use Rattle.std.proofs.lemmas.List.Elements.{Contains-append_left, Contains-push, Contains-push_cases}
 use Rattle.clause_meaning.specs.Literals.{opposite_of}
-use Rattle.clause_meaning.specs.Refutation.{Forces, IsFalseUnder, Clashes, Refutes, Reaches, IsClosed}
-use Rattle.clause_meaning.proofs.Chains.{Reaches-given, Reaches-forced, Reaches-more, Reaches-again, Refutes-from_clash, Refutes-from_reached, Refutes-more, Forces-more, closed_not_refuted}
-use Rattle.rup_check.specs.State.{Numbered, LiveIn}
+use Rattle.clause_meaning.specs.Refutation.{Forces, IsFalseUnder, Refutes, Reaches}
+use Rattle.clause_meaning.proofs.Members.{Contains-nil, Contains-take_more_cases}
+use Rattle.clause_meaning.proofs.LiteralLaws.{opposite_of-opposite_of, opposite_of-ne}
+use Rattle.clause_meaning.proofs.Chains.{Reaches-given, Reaches-forced, Reaches-more, Reaches-again, Refutes-from_clash, Refutes-from_reached, Forces-more}
+use Rattle.rup_check.specs.Slots.{IsAt, HeldIn}
 use Rattle.rup_check.specs.Marks.{IsMarked, AreConsistent}
-use Rattle.rup_check.specs.Steps.{GrowsBy, Rests, AllRest, mark_count}
-use Rattle.rup_check.proofs.LiveClauses.{LiveIn-take_more_cases, LiveIn-take_all, LiveIn-nil}
-use Rattle.rup_check.proofs.MarkLemmas.{IsMarked-set_cases, IsMarked-set_stays, AreConsistent-set}
+use Rattle.rup_check.specs.Steps.{GrowsBy, HasTwoFree, Rests, RestAmong}
 
-pub GrowsBy-same : (live : List Numbered) (marks : List Bool) → AreConsistent marks → GrowsBy live marks marks
-GrowsBy-same live marks consistent = record {
-  same_length = refl;
-  stays = λ l m. m;
-  reached = λ l m. Reaches-given (LiveIn live) (IsMarked marks) l m;
+pub consistent_push : (marked : List ℕ) (l : ℕ) → AreConsistent marked → (IsMarked marked (opposite_of l) → ⊥) → AreConsistent (marked ++ l ∷ [])
+consistent_push marked l consistent free k p q =
+    elim (Contains-push_cases marked l k p) [
+      | inl m ↦ elim (Contains-push_cases marked l (opposite_of k) q) [
+        | inl n ↦ consistent k m n
+        | inr d ↦ free (subst (IsMarked marked) (sym (opposite_of-opposite_of k) ∙ ap opposite_of (sym d)) m)
+      ]
+      | inr e ↦ elim (Contains-push_cases marked l (opposite_of k) q) [
+        | inl m ↦ free (subst (λ (y : ℕ). IsMarked marked (opposite_of y)) (sym e) m)
+        | inr d ↦ opposite_of-ne k (sym d ∙ e)
+      ]
+    ]
+
+-- one more literal, which may have been marked
+pub consistent_once : (old new : List ℕ) (l : ℕ) → AreConsistent old → (IsMarked old (opposite_of l) → ⊥)
+    → ((k : ℕ) → IsMarked new k ↔ (IsMarked old k ⊎ (k ≡ l))) → AreConsistent new
+consistent_once old new l consistent free once k p q =
+    consistent_push old l consistent free k (with_last k ((once k).0 p)) (with_last (opposite_of k) ((once (opposite_of k)).0 q))
+  where
+    with_last : (j : ℕ) → IsMarked old j ⊎ (j ≡ l) → IsMarked (old ++ l ∷ []) j
+    with_last j (inl m) = Contains-append_left old (l ∷ []) j m
+    with_last j (inr e) = subst (IsMarked (old ++ l ∷ [])) (sym e) (Contains-push old l)
+
+pub GrowsBy-same : (slots : List (Option (List ℕ))) (marked : List ℕ) → AreConsistent marked → GrowsBy slots marked marked
+GrowsBy-same slots marked consistent = record {
+  more = ([], search rules);
+  reached = λ l m. Reaches-given (HeldIn slots) (IsMarked marked) l m;
   consistent = consistent;
 }
 
-pub GrowsBy-set : (live : List Numbered) (old new : List Bool) (c : List ℕ) (l : ℕ) → GrowsBy live old new → LiveIn live c
-    → Forces c (IsMarked new) l → l < length new → (IsMarked new (opposite_of l) → ⊥) → GrowsBy live old (set new l true)
-GrowsBy-set live old new c l grown s f below free = record {
-  same_length = length-set new l true ∙ grown.same_length;
-  stays = λ k m. IsMarked-set_stays new l k below (grown.stays k m);
-  reached = λ k m. elim (IsMarked-set_cases new l k m) [
-    | inl e ↦ subst (Reaches (LiveIn live) (IsMarked old)) (sym e) (Reaches-forced (LiveIn live) (IsMarked old) c l s (Forces-more c (IsMarked new) (Reaches (LiveIn live) (IsMarked old)) l grown.reached f))
-    | inr n ↦ grown.reached k n
+-- one more literal, which a clause forces
+pub GrowsBy-push : (slots : List (Option (List ℕ))) (old new : List ℕ) (c : List ℕ) (l : ℕ) → GrowsBy slots old new → HeldIn slots c
+    → Forces c (IsMarked new) l → (IsMarked new (opposite_of l) → ⊥) → GrowsBy slots old (new ++ l ∷ [])
+GrowsBy-push slots old new c l grown s f free = record {
+  more = (grown.more.0 ++ l ∷ [], ap (λ (ls : List ℕ). ls ++ l ∷ []) grown.more.1 ∙ append_assoc old grown.more.0 (l ∷ []));
+  reached = λ k m. elim (Contains-push_cases new l k m) [
+    | inl n ↦ grown.reached k n
+    | inr e ↦ subst (Reaches (HeldIn slots) (IsMarked old)) e (Reaches-forced (HeldIn slots) (IsMarked old) c l s (Forces-more c (IsMarked new) (Reaches (HeldIn slots) (IsMarked old)) l grown.reached f))
   ];
-  consistent = AreConsistent-set new l grown.consistent free;
+  consistent = consistent_push new l grown.consistent free;
 }
 
-pub GrowsBy-trans : (live : List Numbered) (old new newer : List Bool) → GrowsBy live old new → GrowsBy live new newer → GrowsBy live old newer
-GrowsBy-trans live old new newer g h = record {
-  same_length = h.same_length ∙ g.same_length;
-  stays = λ l m. h.stays l (g.stays l m);
-  reached = λ l m. Reaches-again (LiveIn live) (IsMarked old) l (Reaches-more (LiveIn live) (LiveIn live) (IsMarked new) (Reaches (LiveIn live) (IsMarked old)) (λ c s. s) g.reached l (h.reached l m));
+pub GrowsBy-trans : (slots : List (Option (List ℕ))) (old new newer : List ℕ) → GrowsBy slots old new → GrowsBy slots new newer → GrowsBy slots old newer
+GrowsBy-trans slots old new newer g h = record {
+  more = (g.more.0 ++ h.more.0, h.more.1 ∙ (ap (λ (ls : List ℕ). ls ++ h.more.0) g.more.1 ∙ append_assoc old g.more.0 h.more.0));
+  reached = λ l m. Reaches-again (HeldIn slots) (IsMarked old) l (Reaches-more (HeldIn slots) (HeldIn slots) (IsMarked new) (Reaches (HeldIn slots) (IsMarked old)) (λ c s. s) g.reached l (h.reached l m));
   consistent = h.consistent;
 }
 
-pub mark_count-set : (marks : List Bool) (l : ℕ) → l < length marks → (IsMarked marks l → ⊥) → mark_count (set marks l true) ≡ mark_count marks + 1
-mark_count-set marks l below free =
-    counted (mark_count (set marks l true)) (mark_count marks) (get_or marks l false) (false_from_ne_true (get_or marks l false) free) (sum_by-set (λ (mark : Bool). cond mark 1 0) marks l true false below)
-  where
-    counted : (n m : ℕ) (b : Bool) → b ≡ false → n + cond b 1 0 ≡ m + 1 → n ≡ m + 1
-    counted n m true e h = absurd (true≢false e)
-    counted n m false e h = omega arith
+pub GrowsBy-stays : (slots : List (Option (List ℕ))) (old new : List ℕ) (l : ℕ) → GrowsBy slots old new → IsMarked old l → IsMarked new l
+GrowsBy-stays slots old new l grown m = subst (λ (ls : List ℕ). Contains ls l) (sym grown.more.1) (Contains-append_left old grown.more.0 l m)
 
 -- a false clause, of marks that only grew
-pub refuted_by_false : (live : List Numbered) (old new : List Bool) (c : List ℕ) → GrowsBy live old new → LiveIn live c → IsFalseUnder (IsMarked new) c → Refutes (LiveIn live) (IsMarked old)
-refuted_by_false live old new c grown s f = Refutes-from_clash (LiveIn live) (IsMarked old) (inl (c, s, λ k m. grown.reached (opposite_of k) (f k m)))
+pub refuted_by_false : (slots : List (Option (List ℕ))) (old new : List ℕ) (c : List ℕ) → GrowsBy slots old new → HeldIn slots c → IsFalseUnder (IsMarked new) c → Refutes (HeldIn slots) (IsMarked old)
+refuted_by_false slots old new c grown s f = Refutes-from_clash (HeldIn slots) (IsMarked old) (inl (c, s, λ k m. grown.reached (opposite_of k) (f k m)))
 
-pub refuted_later : (live : List Numbered) (old new : List Bool) → GrowsBy live old new → Refutes (LiveIn live) (IsMarked new) → Refutes (LiveIn live) (IsMarked old)
-refuted_later live old new grown r = Refutes-from_reached (LiveIn live) (IsMarked old) (IsMarked new) grown.reached r
+pub refuted_later : (slots : List (Option (List ℕ))) (old new : List ℕ) → GrowsBy slots old new → Refutes (HeldIn slots) (IsMarked new) → Refutes (HeldIn slots) (IsMarked old)
+refuted_later slots old new grown r = Refutes-from_reached (HeldIn slots) (IsMarked old) (IsMarked new) grown.reached r
 
--- marks at which each clause rests stand against a refutation
-pub settled_not_refuted : (live : List Numbered) (old new : List Bool) → GrowsBy live old new → AllRest live new → Refutes (LiveIn live) (IsMarked old) → ⊥
-settled_not_refuted live old new grown rest r =
-    closed_not_refuted (LiveIn live) (IsMarked old) (IsMarked new) closed grown.stays r
-  where
-    no_clash : Clashes (LiveIn live) (IsMarked new) → ⊥
-    no_clash (inl (c, s, f)) = (rest c s).not_false f
-    no_clash (inr (l, p, q)) = grown.consistent l p q
-
-    closed : IsClosed (LiveIn live) (IsMarked new)
-    closed = record { forced = λ c l s f. (rest c s).forced l f; no_clash = λ clash. no_clash clash }
-
-pub AllRest-nil : (marks : List Bool) → AllRest [] marks
-AllRest-nil marks c s = absurd (LiveIn-nil c s)
-
-pub AllRest-more : (live : List Numbered) (i : ℕ) (d : Numbered) (marks : List Bool) → i < length live → AllRest (take i live) marks → Rests marks (get_or live i d).literals → AllRest (take (i + 1) live) marks
-AllRest-more live i d marks h rest r c s =
-    elim (LiveIn-take_more_cases live i d c h s) [ inl t ↦ rest c t | inr e ↦ subst (Rests marks) e r ]
-
-pub AllRest-all : (live : List Numbered) (i : ℕ) (marks : List Bool) → length live ≤ i → AllRest (take i live) marks → AllRest live marks
-AllRest-all live i marks h rest c s = rest c (LiveIn-take_all live i c h s)
-
--- what a pass keeps: marks that grew, and the first i clauses at rest where none grew
-pub record PassHolds (live : List Numbered) (old marks : List Bool) (grows : Bool) (i : ℕ) : Type 0 where
-  pub grown : GrowsBy live old marks
-  pub counted : ((grows ≡ true) × (mark_count old < mark_count marks)) ⊎ ((grows ≡ false) × AllRest (take i live) marks)
-  pub rises : mark_count old ≤ mark_count marks
-
-pub PassHolds-start : (live : List Numbered) (old : List Bool) → AreConsistent old → PassHolds live old old false 0
-PassHolds-start live old consistent = record {
-  grown = GrowsBy-same live old consistent;
-  counted = inr (refl, AllRest-nil old);
-  rises = omega arith;
+-- fewer literals are true, and more are marked
+pub Rests-more : (K L M N : ℕ → Type 0) (c : List ℕ) → ((k : ℕ) → L k → K k) → ((k : ℕ) → M k → N k) → Rests K M c → Rests L N c
+Rests-more K L M N c less more rests = record {
+  not_false = λ f. rests.not_false (λ k m. less (opposite_of k) (f k m));
+  forced = λ l f. more l (rests.forced l (Forces-more c L K l less f));
 }
 
--- a clause of the list forces one more literal
-pub PassHolds-forces : (live : List Numbered) (old marks : List Bool) (grows : Bool) (i j l : ℕ) (c : List ℕ) → PassHolds live old marks grows i → LiveIn live c
-    → Forces c (IsMarked marks) l → (IsMarked marks l → ⊥) → (IsMarked marks (opposite_of l) → ⊥) → l < length marks → PassHolds live old (set marks l true) true j
-PassHolds-forces live old marks grows i j l c h s f unmarked free below =
-    let counted = mark_count-set marks l below unmarked in
-    let rises = h.rises in
-    record {
-      grown = GrowsBy-set live old marks c l h.grown s f below free;
-      counted = inl (refl, omega arith);
-      rises = omega arith;
-    }
-
--- the clause at place i rests
-pub PassHolds-rests : (live : List Numbered) (old marks : List Bool) (grows : Bool) (i : ℕ) (d : Numbered) → PassHolds live old marks grows i → i < length live
-    → Rests marks (get_or live i d).literals → PassHolds live old marks grows (i + 1)
-PassHolds-rests live old marks grows i d h below rests = record {
-  grown = h.grown;
-  counted = elim h.counted [ inl k ↦ inl k | inr k ↦ inr (k.0, AllRest-more live i d marks below k.1 rests) ];
-  rises = h.rises;
+-- a clause rests once what it forces is marked
+pub Rests-forced : (marked : List ℕ) (l : ℕ) (c : List ℕ) → Forces c (IsMarked marked) l → (IsMarked marked (opposite_of l) → ⊥)
+    → Rests (IsMarked marked) (IsMarked (marked ++ l ∷ [])) c
+Rests-forced marked l c f free = record {
+  not_false = λ g. free (g l f.member);
+  forced = λ k g. elim (cases_eq l k) [
+    | inl e ↦ subst (IsMarked (marked ++ l ∷ [])) e (Contains-push marked l)
+    | inr n ↦ absurd (free (g.others l f.member n))
+  ];
 }
 
--- the same literals, given otherwise
-pub Refutes-same : (live : List Numbered) (K L : ℕ → Type 0) → ((l : ℕ) → (K l → L l) × (L l → K l)) → (r : Bool)
-    → ((r ≡ true → Refutes (LiveIn live) K) × (Refutes (LiveIn live) K → r ≡ true)) → (r ≡ true → Refutes (LiveIn live) L) × (Refutes (LiveIn live) L → r ≡ true)
-Refutes-same live K L same r told = (
-  λ e. Refutes-more (LiveIn live) (LiveIn live) K L (λ c s. s) (λ l. (same l).0) (told.0 e),
-  λ h. told.1 (Refutes-more (LiveIn live) (LiveIn live) L K (λ c s. s) (λ l. (same l).1) h),
-)
+-- a clause with two literals whose opposites aren't marked rests
+pub Rests-two_free : (marked c : List ℕ) → HasTwoFree marked c → Rests (IsMarked marked) (IsMarked marked) c
+Rests-two_free marked c two = record {
+  not_false = λ f. two.first_free (f two.first two.has_first);
+  forced = λ l f. elim (cases_eq two.first l) [
+    | inl e ↦ absurd (two.second_free (f.others two.second two.has_second (λ d. two.differ (e ∙ sym d))))
+    | inr n ↦ absurd (two.first_free (f.others two.first two.has_first n))
+  ];
+}
+
+-- a clause with a literal that is marked rests
+pub Rests-marked : (marked c : List ℕ) (l : ℕ) → AreConsistent marked → Contains c l → IsMarked marked l → Rests (IsMarked marked) (IsMarked marked) c
+Rests-marked marked c l consistent member m = record {
+  not_false = λ f. consistent l m (f l member);
+  forced = λ k f. elim (cases_eq l k) [ inl e ↦ subst (IsMarked marked) e m | inr n ↦ absurd (consistent l m (f.others l member n)) ];
+}
+
+-- what a look over the first i numbers keeps
+pub record LooksHold (slots : List (Option (List ℕ))) (numbers old new : List ℕ) (i : ℕ) : Type 0 where
+  pub grown : GrowsBy slots old new
+  pub rest : RestAmong slots (take i numbers) old new
+
+pub LooksHold-start : (slots : List (Option (List ℕ))) (numbers old : List ℕ) → AreConsistent old → LooksHold slots numbers old old 0
+LooksHold-start slots numbers old consistent = record {
+  grown = GrowsBy-same slots old consistent;
+  rest = λ n c m e. absurd (Contains-nil n m);
+}
+
+rest_more : (slots : List (Option (List ℕ))) (numbers old new newer : List ℕ) (i : ℕ) → i < length numbers → RestAmong slots (take i numbers) old new
+    → ((k : ℕ) → IsMarked new k → IsMarked newer k) → ((c : List ℕ) → IsAt slots (get_or numbers i 0) c → Rests (IsMarked old) (IsMarked newer) c)
+    → RestAmong slots (take (i + 1) numbers) old newer
+rest_more slots numbers old new newer i h rest more here n c m e =
+    elim (Contains-take_more_cases numbers i 0 n h m) [
+      | inl t ↦ Rests-more (IsMarked old) (IsMarked old) (IsMarked new) (IsMarked newer) c (λ k p. p) more (rest n c t e)
+      | inr s ↦ here c (subst (λ (j : ℕ). IsAt slots j c) (sym s) e)
+    ]
+
+-- no clause has the number
+pub LooksHold-none : (slots : List (Option (List ℕ))) (numbers old new : List ℕ) (i : ℕ) → i < length numbers → LooksHold slots numbers old new i
+    → ((c : List ℕ) → IsAt slots (get_or numbers i 0) c → ⊥) → LooksHold slots numbers old new (i + 1)
+LooksHold-none slots numbers old new i h holds none = record {
+  grown = holds.grown;
+  rest = rest_more slots numbers old new new i h holds.rest (λ k m. m) (λ c e. absurd (none c e));
+}
+
+-- the clause of the number forces one more literal
+pub LooksHold-forces : (slots : List (Option (List ℕ))) (numbers old new : List ℕ) (i l : ℕ) (c : List ℕ) → i < length numbers → LooksHold slots numbers old new i
+    → IsAt slots (get_or numbers i 0) c → ((d : List ℕ) → IsAt slots (get_or numbers i 0) d → c ≡ d)
+    → Forces c (IsMarked new) l → (IsMarked new (opposite_of l) → ⊥) → LooksHold slots numbers old (new ++ l ∷ []) (i + 1)
+LooksHold-forces slots numbers old new i l c h holds here only f free = record {
+  grown = GrowsBy-push slots old new c l holds.grown (get_or numbers i 0, here) f free;
+  rest = rest_more slots numbers old new (new ++ l ∷ []) i h holds.rest (λ k m. Contains-append_left new (l ∷ []) k m)
+      (λ d e. subst (Rests (IsMarked old) (IsMarked (new ++ l ∷ []))) (only d e)
+      (Rests-more (IsMarked new) (IsMarked old) (IsMarked (new ++ l ∷ [])) (IsMarked (new ++ l ∷ [])) c (λ k m. GrowsBy-stays slots old new k holds.grown m) (λ k m. m) (Rests-forced new l c f free)));
+}
+
+-- the clause of the number rests
+pub LooksHold-rests : (slots : List (Option (List ℕ))) (numbers old new : List ℕ) (i : ℕ) (c : List ℕ) → i < length numbers → LooksHold slots numbers old new i
+    → ((d : List ℕ) → IsAt slots (get_or numbers i 0) d → c ≡ d) → Rests (IsMarked new) (IsMarked new) c → LooksHold slots numbers old new (i + 1)
+LooksHold-rests slots numbers old new i c h holds only rests = record {
+  grown = holds.grown;
+  rest = rest_more slots numbers old new new i h holds.rest (λ k m. m)
+      (λ d e. subst (Rests (IsMarked old) (IsMarked new)) (only d e)
+      (Rests-more (IsMarked new) (IsMarked old) (IsMarked new) (IsMarked new) c (λ k m. GrowsBy-stays slots old new k holds.grown m) (λ k m. m) rests));
+}

@@ -1,23 +1,19 @@
 -- Marked literals: a literal is marked once it is true.
-use Rattle.std.specs.Prelude.{◌≡◌, ℕ, ◌*◌, List, Bool, true, false, length, All, Contains, slice_index_or}
-use Rattle.clause_meaning.specs.Literals.{opposite_of, AreBelow}
-use Rattle.rup_check.specs.State.{Numbered}
+use Rattle.std.specs.Prelude.{ℕ, List, Contains}
+use Rattle.clause_meaning.specs.Literals.{opposite_of}
+
+-- the marked literals in the order of marking, over a number of variables
+pub record Marked : Type 0 where
+  pub variables : ℕ
+  pub literals : List ℕ
 
 -- the literal has a mark
-abbrev pub IsMarked : List Bool → ℕ → Type 0
-IsMarked marks l = slice_index_or marks l false ≡ true
+abbrev pub IsMarked : List ℕ → ℕ → Type 0
+IsMarked marked l = Contains marked l
 
 -- no literal is marked beside its opposite
-abbrev pub AreConsistent : List Bool → Type 0
-AreConsistent marks = (l : ℕ) → IsMarked marks l → IsMarked marks (opposite_of l) → ⊥
-
--- there is a mark for each literal of so many variables
-abbrev pub Cover : List Bool → ℕ → Type 0
-Cover marks variables = length marks ≡ 2 * variables
-
--- each live clause has variables below the number of variables
-abbrev pub AreInRange : ℕ → List Numbered → Type 0
-AreInRange variables live = All (λ entry. AreBelow variables entry.literals) live
+abbrev pub AreConsistent : List ℕ → Type 0
+AreConsistent marked = (l : ℕ) → IsMarked marked l → IsMarked marked (opposite_of l) → ⊥
 
 -- two literals of the list are opposite
 abbrev pub HasOpposites : List ℕ → Type 0

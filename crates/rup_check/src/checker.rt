@@ -5,7 +5,9 @@ ghost use Rattle.clause_meaning.specs.Literals.{AreBelow};
 ghost use Rattle.clause_meaning.specs.Refutation.{Refutes, ContainsOneOf};
 ghost use Rattle.rup_check.specs.State.{LiveIn, IsLive, without, empty_state, with_clause};
 
-use crate::clauses::{LiveClause, drop_number, has_clause_within};
+use crate::clauses::Clauses;
+use crate::hints::{Hint, make_room};
+use crate::marks::Marks;
 use crate::propagation;
 use cq_terms::NoMemory;
 use std::alloc::Global;
@@ -17,10 +19,9 @@ use std::marker::Model;
 /// A literal is twice its variable where the variable is present, and one more where it is absent.
 #[derive(Drop)]
 pub struct Checker {
-    variables: u32,
-    live: Vec<LiveClause>,
-    next: u64,
-    marks: Vec<bool>,
+    clauses: Clauses,
+    hints: Vec<Hint>,
+    marks: Marks,
 }
 
 impl Model for Checker {
@@ -43,10 +44,9 @@ impl Checker {
         ensures exact { IfOk result (λ checker. checker ≡ empty_state variables) }
     {
         Ok(Checker {
-            variables,
-            live: Vec::new(alloc),
-            next: 0,
-            marks: vec![in alloc; false; 2 * variables as usize]?,
+            clauses: Clauses::new(alloc, variables)?,
+            hints: Vec::new(alloc),
+            marks: Marks::new(alloc, variables)?,
         })
     }
 
@@ -61,15 +61,15 @@ impl Checker {
 
         ensures unchanged { OnErr result (self.new ≡ self.old) }
     {
-        let number = self.next;
-        let literals = Vec::from_slice(*self.live.allocator(), clause)?;
-        self.live.push(LiveClause::new(number, literals))?;
-        self.next += 1;
+        let number = self.clauses.len() as u64;
+        make_room(&mut self.hints, number as usize)?;
+        self.clauses.add(clause)?;
         Ok(number)
     }
 
     /// Whether unit propagation from the literals, with the live clauses, ends in a false clause or in opposite literals.
-    /// It goes over the live clauses once for each round in which a literal was forced, and once more.
+    /// It looks at the clauses without two different literals, and for each literal that becomes true at those that have its
+    /// opposite.
     pub fn refutes(&mut self, assume: &[u32]) -> bool
         requires in_range { AreBelow self.old.variables assume.now }
 
@@ -77,23 +77,25 @@ impl Checker {
 
         ensures unchanged { self.new ≡ self.old }
     {
-        propagation::refutes(&mut self.marks, &self.live, assume, self.variables)
+        let refuted = propagation::refutes(&self.clauses, &mut self.hints, &mut self.marks, assume);
+        self.marks.clear();
+        refuted
     }
 
-    /// Whether the clause has all literals of some live clause. It goes over the live clauses once, and leaves each at its
-    /// first literal that the clause hasn't.
+    /// Whether the clause has all literals of some live clause. It looks at the live clauses that have one of its literals,
+    /// and at an empty one.
     pub fn is_superset_of_live(&self, clause: &[u32]) -> bool
         ensures exact { IsTrue result ↔ ContainsOneOf (LiveIn self.now.live) clause.now }
     {
-        has_clause_within(&self.live, clause)
+        self.clauses.has_within(clause)
     }
 
-    /// Drops the live clause of that number.
+    /// Drops the live clause of that number. It goes over the lists of the clauses that have one of its literals.
     pub fn forget(&mut self, number: u64)
         requires live { IsLive self.old.live number }
 
         ensures exact { self.new ≡ record self.old { live = without self.old.live number } }
     {
-        drop_number(&mut self.live, number);
+        self.clauses.remove(number as usize);
     }
 }

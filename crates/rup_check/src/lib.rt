@@ -3,8 +3,12 @@
 
 mod checker;
 mod clauses;
+mod hints;
+mod lists;
 mod marks;
+mod numbers;
 mod propagation;
+mod slot;
 #[cfg(test)]
 mod tests;
 

@@ -1,14 +1,16 @@
-//! Unit propagation, by passes over all live clauses until nothing changes.
+//! Unit propagation, by the marked literals in the order of marking: for each the clauses that have its opposite.
 
-ghost use Rattle.std.specs.Prelude.{◌≡◌, ◌↔◌, IsTrue, length, Contains};
+ghost use Rattle.std.specs.Prelude.{◌≡◌, ◌↔◌, IsTrue, Contains, [], ℕ, List};
+ghost use Rattle.std.specs.Bool.{OnTrue, OnFalse};
 ghost use Rattle.clause_meaning.specs.Literals.{AreBelow};
 ghost use Rattle.clause_meaning.specs.Refutation.{Refutes};
-ghost use Rattle.rup_check.specs.State.{LiveIn};
-ghost use Rattle.rup_check.specs.Marks.{IsMarked, AreConsistent, Cover, AreInRange};
-ghost use Rattle.rup_check.specs.Steps.{AreFree, Says, Found, GrowsBy};
+ghost use Rattle.rup_check.specs.Slots.{IsAt, HeldIn};
+ghost use Rattle.rup_check.specs.Marks.{IsMarked, AreConsistent};
+ghost use Rattle.rup_check.specs.Steps.{AreFree, Says, FindsBelow, GrowsBy, RestAmong};
 
-use crate::clauses::LiveClause;
-use crate::marks::{clear, mark_all};
+use crate::clauses::Clauses;
+use crate::hints::{Hint, hint_for, shows_rest};
+use crate::marks::{Marks, mark_all};
 use clause_meaning::opposite;
 
 /// Which literals of a clause aren't false: those whose opposite isn't marked.
@@ -33,26 +35,15 @@ pub enum Finding {
     Rests,
 }
 
-/// How a pass over all clauses ended.
-#[derive(Clone, Copy)]
-pub enum Pass {
-    /// A clause is false.
-    Clashes,
-    /// A literal was marked.
-    Grows,
-    /// No clause is false, and what each forces is marked.
-    Settled,
-}
-
 /// Looks for a literal that isn't false, and for another.
-fn free_literals(marks: &[bool], clause: &[u32], variables: u32) -> FreeLiterals
-    requires cover { Cover marks.now variables }
-    requires in_range { AreBelow variables clause.now }
-    ensures { AreFree marks.now clause.now result }
+fn free_literals(marks: &Marks, clause: &[u32]) -> FreeLiterals
+    requires in_range { AreBelow marks.now.variables clause.now }
+
+    ensures { AreFree marks.now.literals clause.now result }
 {
     let mut free = None;
     for literal in clause {
-        if !marks[opposite(*literal) as usize] {
+        if !marks.has(opposite(*literal)) {
             match free {
                 None => free = Some(*literal),
                 Some(other) => {
@@ -70,16 +61,17 @@ fn free_literals(marks: &[bool], clause: &[u32], variables: u32) -> FreeLiterals
 }
 
 /// Looks at one clause under the marks.
-fn look_at(marks: &[bool], clause: &[u32], variables: u32) -> Finding
-    requires cover { Cover marks.now variables }
-    requires in_range { AreBelow variables clause.now }
-    requires consistent { AreConsistent marks.now }
-    ensures { Says marks.now clause.now result }
+fn look_at(marks: &Marks, clause: &[u32]) -> Finding
+    requires in_range { AreBelow marks.now.variables clause.now }
+    requires consistent { AreConsistent marks.now.literals }
+
+    ensures says { Says marks.now.literals clause.now result }
+    ensures in_range { FindsBelow marks.now.variables result }
 {
-    match free_literals(marks, clause, variables) {
+    match free_literals(marks, clause) {
         FreeLiterals::Nothing => Finding::IsFalse,
         FreeLiterals::One(literal) => {
-            if marks[literal as usize] {
+            if marks.has(literal) {
                 Finding::Rests
             } else {
                 Finding::Forces(literal)
@@ -89,59 +81,80 @@ fn look_at(marks: &[bool], clause: &[u32], variables: u32) -> Finding
     }
 }
 
-/// Marks what the clauses force, each looked at once.
-fn pass_over(marks: &mut [bool], live: &[LiveClause], variables: u32) -> Pass
-    requires cover { Cover marks.old variables }
-    requires in_range { AreInRange variables live.now }
-    requires consistent { AreConsistent marks.old }
+/// Looks at one clause under the marks, at the places of its hint first, and renews the hint.
+fn look_by_hint(marks: &Marks, clause: &[u32], hints: &mut [Hint], number: usize) -> Finding
+    requires in_range { AreBelow marks.now.variables clause.now }
+    requires consistent { AreConsistent marks.now.literals }
 
-    ensures grows { GrowsBy live.now marks.old marks.new }
-    ensures found { Found live.now marks.old marks.new result }
+    ensures says { Says marks.now.literals clause.now result }
+    ensures in_range { FindsBelow marks.now.variables result }
 {
-    let mut grows = false;
-    for entry in live {
-        match look_at(marks, entry.literals(), variables) {
-            Finding::IsFalse => return Pass::Clashes,
-            Finding::Forces(literal) => {
-                marks[literal as usize] = true;
-                grows = true;
+    if number >= hints.len() {
+        return look_at(marks, clause);
+    }
+    if shows_rest(marks, clause, hints[number]) {
+        return Finding::Rests;
+    }
+    hints[number] = hint_for(marks, clause);
+    look_at(marks, clause)
+}
+
+/// Looks at the live clauses of the numbers, each once, and marks what they force; `true` where one is false.
+fn look_over(clauses: &Clauses, numbers: &[usize], hints: &mut [Hint], marks: &mut Marks) -> bool
+    requires same_variables { marks.old.variables ≡ clauses.now.variables }
+    requires consistent { AreConsistent marks.old.literals }
+
+    ensures same_variables { marks.new.variables ≡ marks.old.variables }
+    ensures grows { GrowsBy clauses.now.slots marks.old.literals marks.new.literals }
+    ensures clashes { OnTrue result (Refutes (HeldIn clauses.now.slots) (IsMarked marks.old.literals)) }
+    ensures rest { OnFalse result (RestAmong clauses.now.slots numbers.now marks.old.literals marks.new.literals) }
+{
+    for number in numbers {
+        if let Some(clause) = clauses.get(*number) {
+            match look_by_hint(marks, clause, hints, *number) {
+                Finding::IsFalse => return true,
+                Finding::Forces(literal) => marks.mark(literal),
+                Finding::Rests => {}
             }
-            Finding::Rests => {}
         }
     }
-    if grows { Pass::Grows } else { Pass::Settled }
+    false
 }
 
-/// Whether propagation from the marked literals ends in a clash.
-fn clashes(marks: &mut [bool], live: &[LiveClause], variables: u32) -> bool
-    requires cover { Cover marks.old variables }
-    requires in_range { AreInRange variables live.now }
-    requires consistent { AreConsistent marks.old }
+/// Whether propagation from the marked literals ends in a clash. It looks at the clauses without two different literals, and
+/// then, for each marked literal, at those that have its opposite.
+fn clashes(clauses: &Clauses, hints: &mut [Hint], marks: &mut Marks) -> bool
+    requires same_variables { marks.old.variables ≡ clauses.now.variables }
+    requires consistent { AreConsistent marks.old.literals }
 
-    ensures exact { IsTrue result ↔ Refutes (LiveIn live.now) (IsMarked marks.old) }
-    ensures same_length { length marks.new ≡ length marks.old }
+    ensures same_variables { marks.new.variables ≡ marks.old.variables }
+    ensures exact { IsTrue result ↔ Refutes (HeldIn clauses.now.slots) (IsMarked marks.old.literals) }
 {
-    loop {
-        match pass_over(marks, live, variables) {
-            Pass::Clashes => return true,
-            Pass::Settled => return false,
-            Pass::Grows => {}
-        }
+    if look_over(clauses, clauses.short(), hints, marks) {
+        return true;
     }
+    let mut done = 0;
+    while done < marks.len() {
+        let literal = marks.literal(done);
+        if look_over(clauses, clauses.with(opposite(literal)), hints, marks) {
+            return true;
+        }
+        done += 1;
+    }
+    false
 }
 
-/// Whether propagation from the literals ends in a clash, whatever was marked before.
-pub fn refutes(marks: &mut [bool], live: &[LiveClause], assume: &[u32], variables: u32) -> bool
-    requires cover { Cover marks.old variables }
-    requires in_range { AreInRange variables live.now }
-    requires assumed { AreBelow variables assume.now }
+/// Whether propagation from the literals ends in a clash.
+pub fn refutes(clauses: &Clauses, hints: &mut [Hint], marks: &mut Marks, assume: &[u32]) -> bool
+    requires same_variables { marks.old.variables ≡ clauses.now.variables }
+    requires none { marks.old.literals ≡ [] }
+    requires assumed { AreBelow clauses.now.variables assume.now }
 
-    ensures exact { IsTrue result ↔ Refutes (LiveIn live.now) (Contains assume.now) }
-    ensures same_length { length marks.new ≡ length marks.old }
+    ensures same_variables { marks.new.variables ≡ marks.old.variables }
+    ensures exact { IsTrue result ↔ Refutes (HeldIn clauses.now.slots) (Contains assume.now) }
 {
-    clear(marks);
-    if mark_all(marks, assume, variables) {
-        clashes(marks, live, variables)
+    if mark_all(marks, assume) {
+        clashes(clauses, hints, marks)
     } else {
         true
     }

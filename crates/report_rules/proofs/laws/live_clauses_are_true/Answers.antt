@@ -1,4 +1,4 @@
-use Rattle.report_rules.proofs.LiveLemmas.{live_true}
+use Rattle.report_rules.proofs.HeldLemmas.{live_true}
 use Rattle.report_rules.proofs.laws.live_clauses_are_true.Goals as goal
 
 pub returns : goal.returns

@@ -2,7 +2,7 @@ use Rattle.std.proofs.Common.{inl, inr, subst, Contains, get_or}
 use Rattle.std.proofs.lemmas.Bool.{false≢true, both_ways}
 use Rattle.std.proofs.lemmas.List.Elements.{Contains-get_or}
 use Rattle.clause_meaning.proofs.Members.{Contains-take_more_cases}
-use Rattle.rup_check.proofs.LiveClauses.{contains_tells}
+use Rattle.rup_check.proofs.ListTests.{contains_tells}
 use Rattle.rup_check.proofs.clauses.is_within.Goals as goal
 
 pub returns-then-not-contains : goal.returns-then-not-contains

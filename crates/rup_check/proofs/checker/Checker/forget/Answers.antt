@@ -1,13 +1,17 @@
-use Rattle.std.proofs.lemmas.List.Elements.{All-filter}
-use Rattle.clause_meaning.specs.Literals.{AreBelow}
-use Rattle.rup_check.specs.State.{Numbered}
+use Rattle.std.proofs.Common.{refl, sym, subst, arith}
+use Rattle.rup_check.specs.State.{State, IsLive}
+use Rattle.rup_check.proofs.SlotLemmas.{IsLive-below}
+use Rattle.rup_check.proofs.StockLemmas.{shown-free}
 use Rattle.rup_check.proofs.checker.Checker.forget.Goals as goal
 
-pub invariant_of-self : goal.invariant_of-self
-invariant_of-self c =
-    let kept = c.self.invariant in
-    record {
-      few = kept.few;
-      cover = kept.cover;
-      in_range = rw c.drop_number.ensures (All-filter _ (λ (entry : Numbered). AreBelow c.self.inside.variables entry.literals) c.self.inside.live.items kept.in_range);
-    }
+pub remove-requires : goal.remove-requires
+remove-requires c =
+    let live = subst (λ (s : State). IsLive s.live c.args.number) (sym c.self.view_is) c.requires.live in
+    let below = IsLive-below 0 c.self.inside.clauses.slots c.args.number live in
+    record { within = omega arith }
+
+pub returns : goal.returns
+returns c =
+    let live = subst (λ (s : State). IsLive s.live c.args.number) (sym c.self.view_is) c.requires.live in
+    let below = IsLive-below 0 c.self.inside.clauses.slots c.args.number live in
+    record { exact = rw (c.remove.ensures.exact, ← c.self.view_is) (shown-free c.self.inside.clauses.variables c.args.number c.self.inside.clauses.slots _ (omega arith) refl) }

@@ -1,0 +1,13 @@
+use Rattle.std.proofs.Common.{◌-◌, List}
+use Rattle.cdcl_core.specs.Logs.{Learned}
+use Rattle.cdcl_core.specs.Seeking.{bare}
+use Rattle.cdcl_core.proofs.Runs.{RunHolds}
+use Rattle.cdcl_core.proofs.seek.seek.Given as goal
+
+abbrev pub invariant-loop-clause : goal.invariant-loop-clause
+invariant-loop-clause g l = (entries : List Learned)
+    × RunHolds (bare l.fn.store) l.scope l.assume l.fn.budget l.budget (g.L.ProofLog.content l.fn.log) (g.L.ProofLog.content l.log)
+    (g.L.ProofLog.faults l.fn.log) (g.L.ProofLog.faults l.log) l.store l.assumed entries
+
+abbrev pub decreases-loop-clause : goal.decreases-loop-clause
+decreases-loop-clause g l = l.budget.limit - l.budget.used

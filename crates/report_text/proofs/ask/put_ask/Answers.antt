@@ -1,0 +1,31 @@
+use Rattle.std.proofs.Common.{append_assoc, string_bytes}
+use Rattle.json.specs.Print.{escape_byte}
+use Rattle.report_text.proofs.ask.put_ask.Goals as goal
+
+-- the pieces, from the last to the first
+pub returns : goal.returns
+unfolding escape_byte
+returns c = record {
+  exact = rw (
+    c.in_ok-push_str-5.ensures.bytes,
+    c.in_ok-put_ids-2.ensures.exact,
+    append_assoc (string_bytes c.push_str-4.new.self),
+    c.as_slice-3.ensures.lent,
+    c.in_ok-push_str-4.ensures.bytes,
+    append_assoc (string_bytes c.put_ids.new.out),
+    c.in_ok-put_ids.ensures.exact,
+    append_assoc (string_bytes c.push_str-3.new.self),
+    c.as_slice-2.ensures.lent,
+    c.in_ok-push_str-3.ensures.bytes,
+    append_assoc (string_bytes c.put_id_lists.new.out),
+    c.in_ok-put_id_lists.ensures.exact,
+    append_assoc (string_bytes c.push_str-2.new.self),
+    c.as_slice.ensures.lent,
+    c.in_ok-push_str-2.ensures.bytes,
+    append_assoc (string_bytes c.put_id.new.out),
+    c.in_ok-put_id.ensures.exact,
+    append_assoc (string_bytes c.push_str.new.self),
+    c.in_ok-push_str.ensures.bytes,
+    append_assoc (string_bytes c.args.out.now),
+  );
+}

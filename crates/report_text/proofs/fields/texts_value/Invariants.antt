@@ -1,8 +1,0 @@
-use Rattle.std.proofs.Common.{◌≡◌, map, take, string_bytes}
-use Rattle.serde_json.specs.Data.{string}
-use Rattle.serde_json.specs.View.{view}
-use Rattle.report_text.proofs.fields.texts_value.Given as goal
-
--- the items so far are the texts so far
-abbrev pub invariant-loop-text : goal.invariant-loop-text
-invariant-loop-text l = map view l.items.items ≡ map string (map string_bytes (take l.text-index l.texts))

@@ -1,0 +1,27 @@
+-- The marks by literal beside the list of the marked ones.
+use Rattle.std.specs.Prelude.{◌≡◌, ◌≤◌, ◌*◌, ◌↔◌, ℕ, List, Bool, true, false, length, Contains, count_by, slice_index_or, vec_capacity}
+use Rattle.rup_check.specs.declared.marks.Marks.TheInside.{Inside}
+use Rattle.rup_check.specs.Marks.{Marked}
+
+-- the literal is marked in the table
+abbrev pub HasMark : List Bool → ℕ → Type 0
+HasMark table l = slice_index_or table l false ≡ true
+
+-- how many literals are marked in the table
+abbrev pub mark_count : List Bool → ℕ
+mark_count table = count_by (λ mark. mark) table
+
+-- the table isn't seen
+abbrev pub shown : Inside → Marked
+shown m = record { variables = m.variables; literals = m.literals.items }
+
+-- the table has exactly the literals of the list
+pub record Agrees (table : List Bool) (literals : List ℕ) : Type 0 where
+  pub same : (l : ℕ) → HasMark table l ↔ Contains literals l
+  pub counted : length literals ≡ mark_count table
+
+-- there is room for each literal
+pub record IsKept (m : Inside) : Type 0 where
+  pub cover : length m.table.items ≡ 2 * m.variables
+  pub agrees : Agrees m.table.items m.literals.items
+  pub room : 2 * m.variables ≤ vec_capacity m.literals
