@@ -8,7 +8,7 @@ use Rattle.clause_meaning.proofs.Chains.{Refutes-more, Reaches-more}
 use Rattle.clause_arena.specs.State.{State as Arena, Held, LiveIn as ArenaLive}
 use Rattle.cdcl_trail.specs.State.{State as Trail}
 use Rattle.cdcl_trail.specs.Choices.{DifferInPairs}
-use Rattle.conflict_analysis.specs.Learning.{is_in, Nothing, OccursIn, IsUndecided, IsLearnable}
+use Rattle.clause_meaning.specs.Learning.{is_in, Nothing, OccursIn, IsUndecided, IsLearnable}
 use Rattle.conflict_analysis.specs.Searching.{Searched, IsProper as IsProperClause}
 use Rattle.conflict_analysis.specs.Lessons.{IsLesson}
 use Rattle.conflict_analysis.proofs.Refuting.{known_unrefuted}

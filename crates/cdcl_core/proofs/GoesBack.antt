@@ -9,7 +9,7 @@ use Rattle.cdcl_trail.specs.State.{State, with_entry}
 use Rattle.cdcl_trail.specs.Levels.{CutsTo}
 use Rattle.cdcl_trail.specs.Fits.{Fits}
 use Rattle.conflict_analysis.specs.Levels.{IsKnownAt}
-use Rattle.conflict_analysis.specs.Learning.{is_in, With}
+use Rattle.clause_meaning.specs.Learning.{is_in, With}
 use Rattle.conflict_analysis.specs.Searching.{LiveAmong, Searched, IsSearching, AreAssumed, UnitsStand}
 use Rattle.conflict_analysis.proofs.LevelFacts.{IsKnownAt-append, IsKnownAt-append_above}
 use Rattle.conflict_analysis.proofs.Keeping.{IsSearching-fix, IsSearching-force}

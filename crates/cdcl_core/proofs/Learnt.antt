@@ -1,12 +1,14 @@
 -- What a store shows after a clause was learned, and before.
-use Rattle.std.proofs.Common.{◌≡◌, ℕ, ◌+◌, List, [], ◌∷◌, ◌++◌, length, Option, Some, false, refl, sym, subst, ap, ◌∙◌, arith}
+use Rattle.std.proofs.Common.{◌≡◌, ◌≢◌, ◌<◌, ◌≤◌, ℕ, ◌+◌, List, [], ◌∷◌, ◌++◌, length, get_or, AllPairs, Option, Some, false, refl, sym, subst, ap, ◌∙◌, arith}
 use Rattle.std.specs.List.Sorted.{IsSorted}
 use Rattle.std.specs.Ordering.{nat_cmp}
 use Rattle.std.proofs.lemmas.List.{length_push}
+use Rattle.std.proofs.lemmas.List.Sorted.{IsNonDecreasingBy-from_sort}
 use Rattle.std.proofs.lemmas.List.Elements.{All-push}
 use Rattle.clause_arena.specs.State.{State as Arena, Held, Holds, LiveIn as ArenaLive, with_clause}
 use Rattle.cdcl_trail.specs.State.{State as Trail}
-use Rattle.conflict_analysis.specs.Learning.{is_in}
+use Rattle.clause_meaning.specs.Literals.{variable_of, HaveDistinctVariables}
+use Rattle.clause_meaning.specs.Learning.{is_in}
 use Rattle.conflict_analysis.specs.Searching.{Searched, IsSearching}
 use Rattle.conflict_analysis.specs.Lessons.{IsLesson}
 use Rattle.conflict_analysis.proofs.Borders.{IsLearnable-outside}
@@ -26,6 +28,9 @@ use Rattle.cdcl_core.proofs.Numbering.{AreNumbered-push}
 use Rattle.cdcl_core.proofs.Shows.{same_state}
 use Rattle.cdcl_core.proofs.StoreKept.{IsKept-same}
 use Rattle.cdcl_core.proofs.Bare.{live_shown, shown_live, IsLearnable-same}
+
+less_unless_same : (m n : ℕ) → m ≤ n → m ≢ n → m < n
+less_unless_same m n up other = omega (arith, up, other)
 
 -- what the store shows is told by its arena's clauses, its labels and the next number
 pub bare-same : (p : Parts) (arena : Arena) (labels : List Label) (trail : Trail) → Holds p.arena arena p.arena.live → labels ≡ p.labels
@@ -69,15 +74,23 @@ bare-learned p arena labels trail r literals parallel holds is =
     same_state arena.variables p.arena.variables (p.next + 1) (p.next + 1) (labelled labels arena.live) (live_in p ++ record { number = Some p.next; literals = literals } ∷ []) holds.variables
     (ap (λ (ls : List Label). labelled ls arena.live) is ∙ (ap (labelled (p.labels ++ label ∷ [])) holds.live ∙ labelled-push p.labels p.arena.live label held parallel)) refl
 
+-- sorted literals of distinct variables ascend
+ascending_literals : (literals : List ℕ) → IsSorted nat_cmp literals → HaveDistinctVariables literals → AllPairs (λ k l. k < l) literals
+ascending_literals literals sorted distinct i j d before within =
+    let up = IsNonDecreasingBy-from_sort (λ (l : ℕ). l) literals sorted i j d (omega (arith, before)) within in
+    less_unless_same (get_or literals i d) (get_or literals j d) up (λ e. distinct i j d before within (ap variable_of e))
+
 -- the clause of a lesson is new to what the store shows
 pub new_entry : (p : Parts) (literals : List ℕ) (asserting back : ℕ) → length p.labels ≡ length p.arena.live → IsSearching p.trail p.arena → IsLesson (Searched p.trail p.arena) p.trail literals asserting back
     → IsSorted nat_cmp literals → IsNew (bare p) p.trail.focus (record { number = p.next; clause = literals })
 new_entry p literals asserting back parallel searching lesson sorted = record {
   number = refl;
-  ascending = sorted;
-  in_scope = lesson_inside p.trail p.arena literals asserting back lesson;
-  learnable = IsLearnable-same (ArenaLive p.arena) (LiveIn (bare p)) literals (λ c m. live_shown p c parallel m) (λ c m. shown_live p c m)
-      (IsLearnable-outside (is_in p.trail.focus) (ArenaLive p.arena) literals searching.separates (λ c m. (searching.proper c m).some) lesson.learnable);
+  lesson = record {
+    ascending = ascending_literals literals sorted lesson.learnable.distinct;
+    inside = lesson_inside p.trail p.arena literals asserting back lesson;
+    learnable = IsLearnable-same (ArenaLive p.arena) (LiveIn (bare p)) literals (λ c m. live_shown p c parallel m) (λ c m. shown_live p c m)
+        (IsLearnable-outside (is_in p.trail.focus) (ArenaLive p.arena) literals searching.separates (λ c m. (searching.proper c m).some) lesson.learnable);
+  };
 }
 
 -- a log that refused it

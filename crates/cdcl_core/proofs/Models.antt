@@ -14,7 +14,7 @@ use Rattle.cdcl_trail.specs.State.{State, count_of}
 use Rattle.cdcl_trail.specs.Fits.{IsReason, IsComplete}
 use Rattle.cdcl_trail.specs.Choices.{AreAssigned}
 use Rattle.cdcl_trail.specs.Values.{IsAssigned}
-use Rattle.conflict_analysis.specs.Learning.{is_in, OccursIn}
+use Rattle.clause_meaning.specs.Learning.{is_in, OccursIn}
 use Rattle.conflict_analysis.specs.Searching.{Searched}
 use Rattle.conflict_analysis.proofs.Reached.{closed_search, named_live}
 use Rattle.conflict_analysis.proofs.Keeping.{true_in_focus}

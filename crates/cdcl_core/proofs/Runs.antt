@@ -3,7 +3,7 @@ use Rattle.std.proofs.Common.{◌≡◌, ℕ, ◌<◌, ◌≤◌, ◌+◌, inl, 
 use Rattle.std.proofs.lemmas.List.{append-nil, append_assoc, length_push}
 use Rattle.std.proofs.lemmas.List.Elements.{Contains-append_left, Contains-push, Contains-push_cases}
 use Rattle.clause_meaning.proofs.Members.{Contains-map}
-use Rattle.conflict_analysis.specs.Learning.{With, AreLearnable}
+use Rattle.clause_meaning.specs.Learning.{With, AreLearnable}
 use Rattle.conflict_analysis.proofs.OneSided.{learned_one_sided}
 use Rattle.cdcl_core.specs.declared.outcome.Budget.{Budget}
 use Rattle.cdcl_core.specs.declared.outcome.Outcome.{Outcome}
@@ -42,7 +42,7 @@ are_learnable : (S : List ℕ → Type 0) (s : State) (scope assume : List ℕ) 
     → AreLearned s scope assume entries → AreLearnable S (map (λ e. e.clause) entries)
 are_learnable S s scope assume [] to from h = tt
 are_learnable S s scope assume (e ∷ es) to from (may, rest) = (
-  IsLearnable-same (LiveIn s) S e.clause from to may.fresh.learnable,
+  IsLearnable-same (LiveIn s) S e.clause from to may.fresh.lesson.learnable,
   are_learnable (With S e.clause) (with_learned s e) scope assume es next back rest,
 )
   where

@@ -11,7 +11,7 @@ use Rattle.cdcl_trail.specs.Assigned.{IsTrueOn}
 use Rattle.cdcl_trail.specs.State.{State, with_entry}
 use Rattle.cdcl_trail.specs.Fits.{Fits, IsComplete, Grows}
 use Rattle.conflict_analysis.specs.Levels.{IsKnownAt}
-use Rattle.conflict_analysis.specs.Learning.{is_in}
+use Rattle.clause_meaning.specs.Learning.{is_in}
 use Rattle.conflict_analysis.specs.Searching.{LiveAmong, Searched, AreAssumed, UnitsStand}
 use Rattle.conflict_analysis.proofs.LevelFacts.{known_true, true_known, known_later, IsKnownAt-append}
 use Rattle.conflict_analysis.proofs.Reached.{closed_search}

@@ -15,7 +15,7 @@ use Rattle.cdcl_trail.specs.Assigned.{IsTrueOn}
 use Rattle.cdcl_trail.specs.State.{State}
 use Rattle.cdcl_trail.specs.Fits.{Fits, IsBefore}
 use Rattle.conflict_analysis.specs.Levels.{IsKnownAt}
-use Rattle.conflict_analysis.specs.Learning.{is_in, Nothing}
+use Rattle.clause_meaning.specs.Learning.{is_in, Nothing}
 use Rattle.conflict_analysis.specs.Searching.{Searched, UnitsStand}
 use Rattle.conflict_analysis.proofs.LevelFacts.{true_known, IsKnownAt-append}
 use Rattle.conflict_analysis.proofs.Reached.{named_live, unit_forces, fixed_reached}

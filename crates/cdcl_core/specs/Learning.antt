@@ -1,10 +1,8 @@
 -- What each learned clause is, at the clauses that are live before it.
 use Rattle.std.specs.Prelude.{◌≡◌, ◌+◌, ◌++◌, ◌*◌, ℕ, List, [], ◌∷◌, Some, Contains}
-use Rattle.std.specs.List.Sorted.{IsSorted}
-use Rattle.std.specs.Ordering.{nat_cmp}
 use Rattle.clause_meaning.specs.Refutation.{Refutes}
-use Rattle.clause_meaning.specs.Assignments.{IsInside, Inside}
-use Rattle.conflict_analysis.specs.Learning.{is_in, OccursIn, Parts, IsFreeOf, IsOneSided, IsLearnable}
+use Rattle.clause_meaning.specs.Assignments.{Inside}
+use Rattle.clause_meaning.specs.Learning.{is_in, OccursIn, Parts, IsFreeOf, IsOneSided, IsLearnableIn}
 use Rattle.cdcl_core.specs.State.{State, LiveIn}
 use Rattle.cdcl_core.specs.Logs.{Learned}
 
@@ -12,13 +10,11 @@ use Rattle.cdcl_core.specs.Logs.{Learned}
 abbrev pub IsRefuted : State → List ℕ → List ℕ → Type 0
 IsRefuted state scope assume = Refutes (Inside (is_in scope) (LiveIn state)) (Contains assume)
 
--- the clause has the next number, ascending literals and variables of the scope; it follows from the live clauses, is new to them, has
--- literals that they have and leave open, and joins nothing
+-- the clause has the next number, and may be learned at the live clauses: it is over the scope, follows, is new to them, has ascending literals that
+-- they have and leave open, and joins nothing
 pub record IsNew (state : State) (scope : List ℕ) (entry : Learned) : Type 0 where
   pub number : entry.number ≡ state.next
-  pub ascending : IsSorted nat_cmp entry.clause
-  pub in_scope : IsInside (is_in scope) entry.clause
-  pub learnable : IsLearnable (LiveIn state) entry.clause
+  pub lesson : IsLearnableIn scope (LiveIn state) entry.clause
 
 -- it may be learned now: the assumptions aren't refuted
 pub record MayLearn (state : State) (scope assume : List ℕ) (entry : Learned) : Type 0 where

@@ -11,7 +11,7 @@ use Rattle.cdcl_trail.specs.State.{State, with_entry}
 use Rattle.cdcl_trail.specs.Fits.{IsConflict}
 use Rattle.cdcl_trail.specs.Choices.{AreAssigned}
 use Rattle.conflict_analysis.specs.Levels.{IsKnownAt}
-use Rattle.conflict_analysis.specs.Learning.{is_in, OccursIn}
+use Rattle.clause_meaning.specs.Learning.{is_in, OccursIn}
 use Rattle.conflict_analysis.specs.Searching.{Searched, IsSearching, AreAssumed, UnitsStand}
 use Rattle.conflict_analysis.specs.Lessons.{IsLesson}
 use Rattle.cdcl_core.specs.declared.seeking.Asked.{Asked}

@@ -2,7 +2,7 @@
 use Rattle.std.specs.Prelude.{◌≡◌, ◌⊎◌, ◌<◌, ◌≤◌, ◌+◌, ◌-◌, ◌^◌, ◌++◌, ℕ, List, length, true, Option, Some, None, Contains, All, Result, Ok, Err}
 use Rattle.clause_meaning.specs.Literals.{variable_of}
 use Rattle.clause_meaning.specs.Assignments.{IsTrueIn, SatisfiesAll, IsInside, Inside, Separates}
-use Rattle.conflict_analysis.specs.Learning.{is_in, OccursIn}
+use Rattle.clause_meaning.specs.Learning.{is_in, OccursIn}
 use Rattle.cdcl_core.specs.declared.outcome.Outcome.{Outcome}
 use Rattle.cdcl_core.specs.declared.outcome.Outcome.TheVariants as outcome
 use Rattle.cdcl_core.specs.declared.outcome.SolveFault.{SolveFault}

@@ -9,7 +9,7 @@ ghost use Rattle.clause_meaning.specs.Assignments.{IsInside, Separates};
 ghost use Rattle.clause_arena.specs.State.{State as Arena, LiveIn, IsLive, Names};
 ghost use Rattle.cdcl_trail.specs.Fits.{Fits, IsComplete, IsConflict};
 ghost use Rattle.cdcl_trail.specs.Choices.{DifferInPairs};
-ghost use Rattle.conflict_analysis.specs.Learning.{is_in, Nothing};
+ghost use Rattle.clause_meaning.specs.Learning.{is_in, Nothing};
 ghost use Rattle.conflict_analysis.specs.Searching.{Searched, IsProper, IsSearching, UnitsStand};
 ghost use Rattle.conflict_analysis.specs.Lessons.{IsLesson};
 ghost use Rattle.cdcl_trail.specs.State.{State as Trail};

@@ -9,7 +9,7 @@ ghost use Rattle.cdcl_core.specs.Shown.{literals_on};
 ghost use Rattle.cdcl_core.specs.Changes.{AddsGiven, DropsClauses, IsSameStore, live_in};
 ghost use Rattle.clause_meaning.specs.Assignments.{IsInside, Separates};
 ghost use Rattle.cdcl_trail.specs.Fits.{IsConflict};
-ghost use Rattle.conflict_analysis.specs.Learning.{is_in};
+ghost use Rattle.clause_meaning.specs.Learning.{is_in};
 ghost use Rattle.conflict_analysis.specs.Searching.{IsSearching, Searched};
 ghost use Rattle.conflict_analysis.specs.Lessons.{IsLesson};
 ghost use Rattle.std.specs.List.Sorted.{IsSorted};

@@ -14,7 +14,7 @@ use Rattle.cdcl_trail.specs.Levels.{CutsTo}
 use Rattle.cdcl_trail.specs.Fits.{Fits, IsReason}
 use Rattle.cdcl_trail.proofs.Entries.{IsTrueOn-append}
 use Rattle.conflict_analysis.specs.Levels.{IsKnownAt, IsOnLevel, AreClosedBelow}
-use Rattle.conflict_analysis.specs.Learning.{With, OccursIn, is_in}
+use Rattle.clause_meaning.specs.Learning.{With, OccursIn, is_in}
 use Rattle.conflict_analysis.specs.Searching.{LiveAmong, Searched, IsProper, AreSearched, IsSearching}
 use Rattle.conflict_analysis.specs.Lessons.{IsLesson}
 use Rattle.conflict_analysis.proofs.Closed.{IsClosed-same, IsClosed-with}

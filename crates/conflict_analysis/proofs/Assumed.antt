@@ -2,7 +2,7 @@
 use Rattle.std.proofs.Common.{◌≡◌, ℕ, ◌<◌, ◌≤◌, ◌+◌, inl, inr, List, [], ◌∷◌, ◌++◌, length, get_or, All, None, IsSome, sym, ap, arith}
 use Rattle.std.proofs.lemmas.List.Elements.{All-append, All-push, Contains-push}
 use Rattle.cdcl_trail.specs.declared.entry.Entry.{Entry}
-use Rattle.conflict_analysis.specs.Learning.{With}
+use Rattle.clause_meaning.specs.Learning.{With}
 use Rattle.conflict_analysis.specs.Searching.{AreAssumed, UnitsStand}
 use Rattle.conflict_analysis.proofs.LevelFacts.{IsKnownAt-append, IsKnownAt-append_above}
 use Rattle.conflict_analysis.proofs.Growing.{All-front, none_some}

@@ -8,7 +8,7 @@ use Rattle.clause_meaning.specs.Assignments.{IsInside, Separates, Inside}
 use Rattle.clause_meaning.proofs.LiteralLaws.{variable_of-opposite_of}
 use Rattle.clause_meaning.proofs.Members.{Contains-head}
 use Rattle.clause_meaning.proofs.Chains.{Reaches-least, Reaches-given, Reaches-forced, Refutes-more}
-use Rattle.conflict_analysis.specs.Learning.{Nothing, OccursIn, IsLearnable}
+use Rattle.clause_meaning.specs.Learning.{Nothing, OccursIn, IsLearnable}
 
 pub Reaches-inside : (scope : ℕ → Bool) (S : List ℕ → Type 0) (L : ℕ → Type 0) → Separates scope S → (l : ℕ) → Reaches S L l → scope (variable_of l) ≡ true → Reaches (Inside scope S) L l
 Reaches-inside scope S L separated =

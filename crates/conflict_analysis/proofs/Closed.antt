@@ -5,7 +5,7 @@ use Rattle.clause_meaning.specs.Literals.{opposite_of}
 use Rattle.clause_meaning.specs.Refutation.{Forces, Clashes, ContainsOneOf, IsClosed}
 use Rattle.clause_meaning.proofs.Chains.{Reaches-least, Forces-more, Clashes-more}
 use Rattle.clause_meaning.proofs.Members.{Contains-nil, Contains-cons_cases, Contains-head, Contains-tail}
-use Rattle.conflict_analysis.specs.Learning.{Nothing, IsUndecided, With}
+use Rattle.clause_meaning.specs.Learning.{Nothing, IsUndecided, With}
 
 pub cases_contains : (c : List ℕ) (l : ℕ) → Contains c l ⊎ (Contains c l → ⊥)
 cases_contains [] l = inr (Contains-nil l)

@@ -11,7 +11,7 @@ use Rattle.cdcl_trail.specs.State.{State}
 use Rattle.cdcl_trail.specs.Levels.{CutsTo}
 use Rattle.cdcl_trail.specs.Fits.{Fits, IsReason, Grows}
 use Rattle.conflict_analysis.specs.Levels.{IsKnownAt}
-use Rattle.conflict_analysis.specs.Learning.{is_in}
+use Rattle.clause_meaning.specs.Learning.{is_in}
 use Rattle.conflict_analysis.specs.Searching.{LiveAmong, IsProper, AreSearched, IsSearching}
 use Rattle.conflict_analysis.proofs.Closed.{IsClosed-same}
 use Rattle.conflict_analysis.proofs.LevelFacts.{IsKnownAt-append, IsKnownAt-append_above}

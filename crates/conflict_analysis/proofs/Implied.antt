@@ -7,7 +7,7 @@ use Rattle.clause_meaning.specs.Refutation.{Reaches, Follows, OppositesOf}
 use Rattle.clause_meaning.proofs.Members.{Contains-map, Contains-map_cases}
 use Rattle.clause_meaning.proofs.LiteralLaws.{opposite_of-opposite_of}
 use Rattle.clause_meaning.proofs.Chains.{Reaches-given, Reaches-more, Reaches-forced, Refutes-from_clash, Refutes-more}
-use Rattle.conflict_analysis.specs.Learning.{Nothing}
+use Rattle.clause_meaning.specs.Learning.{Nothing}
 use Rattle.conflict_analysis.specs.Resolving.{IsImplied}
 
 -- what is reached with no assumption is reached with any

@@ -6,7 +6,7 @@ use Rattle.clause_meaning.specs.Refutation.{Reaches}
 use Rattle.clause_meaning.proofs.LiteralLaws.{variable_of-opposite_of}
 use Rattle.clause_meaning.proofs.Members.{Contains-nil, Contains-cons_cases, Contains-head, Contains-tail}
 use Rattle.clause_meaning.proofs.Chains.{Reaches-least}
-use Rattle.conflict_analysis.specs.Learning.{Nothing, OccursIn, IsFreeOf, IsOneSided, JoinsNothing, is_in}
+use Rattle.clause_meaning.specs.Learning.{Nothing, OccursIn, IsFreeOf, IsOneSided, JoinsNothing, is_in}
 use Rattle.conflict_analysis.specs.Resolving.{Has, JoinsNone}
 
 -- one of a literal and its opposite is the present literal

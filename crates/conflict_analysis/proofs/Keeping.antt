@@ -15,7 +15,7 @@ use Rattle.cdcl_trail.specs.Assigned.{IsTrueOn}
 use Rattle.cdcl_trail.specs.State.{State, with_entry}
 use Rattle.cdcl_trail.specs.Fits.{Fits, IsReason}
 use Rattle.conflict_analysis.specs.Levels.{IsKnownAt, AreClosedBelow}
-use Rattle.conflict_analysis.specs.Learning.{is_in}
+use Rattle.clause_meaning.specs.Learning.{is_in}
 use Rattle.conflict_analysis.specs.Searching.{LiveAmong, Searched, IsProper, AreSearched, IsSearching}
 use Rattle.conflict_analysis.proofs.Closed.{IsClosed-same}
 use Rattle.conflict_analysis.proofs.LevelFacts.{known_true, true_known, IsKnownAt-append, IsKnownAt-append_above}

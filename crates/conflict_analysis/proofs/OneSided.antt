@@ -2,7 +2,7 @@
 use Rattle.std.proofs.Common.{ℕ, ◌*◌, inl, inr, List, [], ◌∷◌, Contains, sym, subst}
 use Rattle.std.proofs.lemmas.List.Elements.{All-contains}
 use Rattle.clause_meaning.proofs.Members.{Contains-nil, Contains-cons_cases}
-use Rattle.conflict_analysis.specs.Learning.{With, OccursIn, IsFreeOf, IsOneSided, Parts, IsLearnable, AreLearnable, is_in}
+use Rattle.clause_meaning.specs.Learning.{With, OccursIn, IsFreeOf, IsOneSided, Parts, IsLearnable, AreLearnable, is_in}
 
 -- no clause gets the present literal of m
 pub never_present : (S : List ℕ → Type 0) (clause : List ℕ) (m : ℕ) → IsLearnable S clause → (OccursIn S (2 * m) → ⊥) → OccursIn (With S clause) (2 * m) → ⊥

@@ -8,7 +8,7 @@ use Rattle.clause_meaning.specs.Refutation.{OppositesOf}
 use Rattle.clause_meaning.proofs.Members.{Contains-nil, Contains-head}
 use Rattle.clause_meaning.proofs.Chains.{Refutes-more}
 use Rattle.cdcl_trail.specs.State.{State}
-use Rattle.conflict_analysis.specs.Learning.{OccursIn, IsUndecided, IsLearnable}
+use Rattle.clause_meaning.specs.Learning.{OccursIn, IsUndecided, IsLearnable}
 use Rattle.conflict_analysis.specs.Lessons.{IsLesson}
 
 -- where a place was before two were swapped

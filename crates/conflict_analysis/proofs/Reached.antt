@@ -13,7 +13,7 @@ use Rattle.cdcl_trail.specs.Assigned.{IsTrueOn}
 use Rattle.cdcl_trail.specs.State.{State}
 use Rattle.cdcl_trail.specs.Fits.{Fits, IsReason, IsComplete}
 use Rattle.conflict_analysis.specs.Levels.{IsKnownAt}
-use Rattle.conflict_analysis.specs.Learning.{Nothing, is_in}
+use Rattle.clause_meaning.specs.Learning.{Nothing, is_in}
 use Rattle.conflict_analysis.specs.Searching.{Searched, IsSearching, AreAssumed, UnitsStand}
 use Rattle.conflict_analysis.proofs.LevelFacts.{known_true}
 

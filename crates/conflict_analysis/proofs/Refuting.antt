@@ -11,7 +11,7 @@ use Rattle.cdcl_trail.specs.Assigned.{IsTrueOn}
 use Rattle.cdcl_trail.specs.State.{State}
 use Rattle.cdcl_trail.specs.Fits.{IsConflict}
 use Rattle.conflict_analysis.specs.Levels.{IsKnownAt}
-use Rattle.conflict_analysis.specs.Learning.{is_in}
+use Rattle.clause_meaning.specs.Learning.{is_in}
 use Rattle.conflict_analysis.specs.Searching.{Searched, IsSearching, AreAssumed}
 use Rattle.conflict_analysis.proofs.LevelFacts.{true_known}
 use Rattle.conflict_analysis.proofs.Reached.{named_live, clause_searched, known_reached}

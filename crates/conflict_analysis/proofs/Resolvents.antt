@@ -12,7 +12,7 @@ use Rattle.cdcl_trail.specs.Assigned.{IsTrueOn}
 use Rattle.cdcl_trail.specs.Table.{AreDistinct}
 use Rattle.cdcl_trail.specs.State.{State}
 use Rattle.conflict_analysis.specs.Levels.{IsKnownAt, IsOnLevel}
-use Rattle.conflict_analysis.specs.Learning.{Nothing}
+use Rattle.clause_meaning.specs.Learning.{Nothing}
 use Rattle.conflict_analysis.specs.Searching.{Searched, IsSearching}
 use Rattle.conflict_analysis.specs.Resolving.{Joins, IsResolvent}
 use Rattle.conflict_analysis.proofs.Implied.{IsImplied-start}

@@ -16,7 +16,7 @@ use Rattle.cdcl_trail.specs.Table.{AreDistinct}
 use Rattle.cdcl_trail.specs.State.{State}
 use Rattle.cdcl_trail.specs.Fits.{IsReason}
 use Rattle.conflict_analysis.specs.Levels.{IsKnownAt, IsOnLevel, BecameFalse}
-use Rattle.conflict_analysis.specs.Learning.{Nothing, IsLearnable}
+use Rattle.clause_meaning.specs.Learning.{Nothing, IsLearnable}
 use Rattle.conflict_analysis.specs.Searching.{Searched, IsSearching}
 use Rattle.conflict_analysis.specs.Lessons.{Asserts, IsLesson}
 use Rattle.conflict_analysis.specs.Resolving.{Joins, TakesOut, IsResolvent, HasOther, IsFalseAt}

@@ -10,7 +10,7 @@ use Rattle.cdcl_trail.specs.Assigned.{IsTrueOn}
 use Rattle.cdcl_trail.specs.Choices.{DifferInPairs}
 use Rattle.cdcl_trail.specs.State.{State, with_entry}
 use Rattle.cdcl_trail.specs.Fits.{Fits, IsComplete, Grows}
-use Rattle.conflict_analysis.specs.Learning.{is_in}
+use Rattle.clause_meaning.specs.Learning.{is_in}
 use Rattle.conflict_analysis.specs.Searching.{Searched, IsSearching}
 use Rattle.conflict_analysis.specs.Trials.{IsLong, AreLong, IsReady}
 use Rattle.conflict_analysis.proofs.Reached.{closed_search}

@@ -4,7 +4,7 @@ use Rattle.std.specs.Prelude.{◌≡◌, ◌≢◌, ◌⊎◌, ◌<◌, ℕ, Lis
 use Rattle.clause_meaning.specs.Literals.{opposite_of}
 use Rattle.cdcl_trail.specs.State.{State}
 use Rattle.conflict_analysis.specs.Levels.{IsKnownAt, BecameFalse}
-use Rattle.conflict_analysis.specs.Learning.{IsLearnable}
+use Rattle.clause_meaning.specs.Learning.{IsLearnable}
 
 -- the asserting literal became false on the current level, each other literal of the clause at the level to go back to or before, and one
 -- of these exactly there, unless it is level 0

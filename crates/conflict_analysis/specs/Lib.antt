@@ -1,5 +1,4 @@
 pub mod Levels
-pub mod Learning
 pub mod Searching
 pub mod Lessons
 pub mod Resolving

@@ -8,7 +8,7 @@ use Rattle.cdcl_trail.specs.Assigned.{IsTrueOn}
 use Rattle.cdcl_trail.specs.State.{State}
 use Rattle.conflict_analysis.specs.declared.analysis.Assertion.{Assertion}
 use Rattle.conflict_analysis.specs.Levels.{IsKnownAt, IsOnLevel}
-use Rattle.conflict_analysis.specs.Learning.{OccursIn, IsOneSided, Parts, is_in}
+use Rattle.clause_meaning.specs.Learning.{OccursIn, IsOneSided, Parts, is_in}
 use Rattle.conflict_analysis.specs.Searching.{Searched}
 use Rattle.conflict_analysis.specs.Lessons.{Asserts}
 

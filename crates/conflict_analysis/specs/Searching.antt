@@ -7,7 +7,7 @@ use Rattle.cdcl_trail.specs.declared.entry.Entry.{Entry}
 use Rattle.cdcl_trail.specs.State.{State}
 use Rattle.cdcl_trail.specs.Fits.{Fits}
 use Rattle.conflict_analysis.specs.Levels.{IsKnownAt, AreClosedBelow}
-use Rattle.conflict_analysis.specs.Learning.{is_in}
+use Rattle.clause_meaning.specs.Learning.{is_in}
 
 -- the live clauses whose variables are all in the list
 abbrev pub LiveAmong : List ℕ → Arena → List ℕ → Type 0

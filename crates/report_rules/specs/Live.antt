@@ -1,5 +1,5 @@
 -- The learned clauses and the live ones after the lines so far. The lines stand newest first.
-use Rattle.std.specs.Prelude.{◌≡◌, ℕ, suc, ◌⊎◌, List, [], ◌∷◌, ◌++◌, Contains, Bool, true, false, not, filter, if◌then◌else◌, nat_lt, length}
+use Rattle.std.specs.Prelude.{◌≡◌, ◌==◌, ◌+◌, ℕ, suc, ◌⊎◌, List, [], ◌∷◌, ◌++◌, Contains, Bool, true, false, not, filter, if◌then◌else◌, length}
 use Rattle.std.specs.List.{list_any}
 use Rattle.cq_terms.specs.Knowledge.{Knowledge}
 use Rattle.clause_meaning.specs.Literals.{variable_of}
@@ -40,17 +40,18 @@ pub record Learned : Type 0 where
   pub number : ℕ
   pub clause : List ℕ
 
--- whether the clause has the selector of a candidate, where there are so many facts
-abbrev pub has_selector : ℕ → List ℕ → Bool
-has_selector facts clause = list_any (λ l. not (nat_lt (variable_of l) facts)) clause
+-- whether the clause has the variable
+abbrev pub has_variable : ℕ → List ℕ → Bool
+has_variable v clause = list_any (λ l. variable_of l == v) clause
 
--- the learned clauses that live, oldest first: not forgotten, and without the selector of an answer that is over
+-- the learned clauses that live, oldest first: not forgotten, and without the selector of an answer that is over, where there are so
+-- many facts
 abbrev pub learned : ℕ → List Line → List Learned
 learned facts [] = []
 learned facts (line.Learn number clause ∷ before) = learned facts before ++ record { number = number; clause = clause } ∷ []
 learned facts (line.Forget numbers ∷ before) = filter (λ c. not (has numbers c.number)) (learned facts before)
 learned facts (line.Answer brave ar iar cores names tuple ∷ before) =
-    filter (λ c. not (has_selector facts c.clause)) (learned facts before)
+    filter (λ c. not (has_variable (facts + (asked before).candidate) c.clause)) (learned facts before)
 learned facts (_ ∷ before) = learned facts before
 
 -- the clause of a cause of the candidate whose answer is open

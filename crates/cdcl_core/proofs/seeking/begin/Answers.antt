@@ -2,7 +2,7 @@ use Rattle.std.proofs.Common.{sym, subst, ap, ◌∙◌}
 use Rattle.clause_meaning.specs.Assignments.{Separates}
 use Rattle.clause_arena.specs.State.{LiveIn}
 use Rattle.cdcl_trail.specs.State.{State}
-use Rattle.conflict_analysis.specs.Learning.{is_in}
+use Rattle.clause_meaning.specs.Learning.{is_in}
 use Rattle.conflict_analysis.proofs.Keeping.{IsSearching-start}
 use Rattle.cdcl_core.proofs.seeking.begin.Goals as goal
 

@@ -1,7 +1,7 @@
 use Rattle.std.proofs.Common.{◌≡◌, ℕ, List, length, get_or, true, false, sym, subst, ap, ◌∙◌}
 use Rattle.std.proofs.lemmas.Bool.{both_ways}
 use Rattle.clause_meaning.specs.Literals.{variable_of}
-use Rattle.conflict_analysis.specs.Learning.{is_in}
+use Rattle.clause_meaning.specs.Learning.{is_in}
 use Rattle.cdcl_core.proofs.Units.{one_literal, same_unit, unit_searched, Begins-fixed, Extends-fixed, StandsAt-fixed, clash_fixed}
 use Rattle.cdcl_core.proofs.seeking.fix_unit.Goals as goal
 

@@ -1,7 +1,7 @@
 use Rattle.std.proofs.Common.{ℕ, List, Contains, sym, subst}
 use Rattle.clause_meaning.specs.Refutation.{Refutes}
 use Rattle.clause_meaning.specs.Assignments.{Inside, Separates}
-use Rattle.conflict_analysis.specs.Learning.{is_in, Nothing}
+use Rattle.clause_meaning.specs.Learning.{is_in, Nothing}
 use Rattle.cdcl_core.specs.State.{LiveIn}
 use Rattle.cdcl_core.specs.Store.{Parts}
 use Rattle.cdcl_core.specs.Shown.{parts_of}

@@ -1,5 +1,0 @@
-use Rattle.report_rules.proofs.TruthLemmas.{accepted_is_true}
-use Rattle.report_rules.proofs.laws.accepted_is_true.Goals as goal
-
-pub returns : goal.returns
-returns c kb names q lines accepts acyclic = accepted_is_true kb names q lines accepts acyclic

@@ -1,5 +1,0 @@
-use Rattle.report_rules.proofs.BreakingLemmas.{accepted_pieces}
-use Rattle.report_rules.proofs.laws.accepted_pieces.Goals as goal
-
-pub returns : goal.returns
-returns c kb names q lines = accepted_pieces kb names q lines

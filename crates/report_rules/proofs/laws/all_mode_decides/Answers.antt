@@ -1,5 +1,0 @@
-use Rattle.report_rules.proofs.EasyLemmas.{all_mode_decides}
-use Rattle.report_rules.proofs.laws.all_mode_decides.Goals as goal
-
-pub returns : goal.returns
-returns c kb names q lines accepts all = all_mode_decides kb names q lines accepts all

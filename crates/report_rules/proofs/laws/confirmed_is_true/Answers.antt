@@ -1,5 +1,0 @@
-use Rattle.report_rules.proofs.CycleLemmas.{confirmed_is_true}
-use Rattle.report_rules.proofs.laws.confirmed_is_true.Goals as goal
-
-pub returns : goal.returns
-returns c kb names q pieces accepted none = confirmed_is_true kb names q pieces accepted none

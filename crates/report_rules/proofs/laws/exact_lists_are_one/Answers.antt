@@ -1,5 +1,0 @@
-use Rattle.report_rules.proofs.UniqueLists.{laws}
-use Rattle.report_rules.proofs.laws.exact_lists_are_one.Goals as goal
-
-pub returns : goal.returns
-returns c = laws

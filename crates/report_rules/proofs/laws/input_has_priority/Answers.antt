@@ -1,5 +1,0 @@
-use Rattle.report_rules.proofs.ConflictsExist.{priority_exists}
-use Rattle.report_rules.proofs.laws.input_has_priority.Goals as goal
-
-pub returns : goal.returns
-returns c kb mode = priority_exists kb mode

@@ -1,5 +1,0 @@
-use Rattle.report_rules.proofs.HeldLemmas.{live_true}
-use Rattle.report_rules.proofs.laws.live_clauses_are_true.Goals as goal
-
-pub returns : goal.returns
-returns c input before right R v chosen reads = live_true input before right R chosen v reads

@@ -1,5 +1,0 @@
-use Rattle.report_rules.proofs.SummaryLemmas.{open_counted}
-use Rattle.report_rules.proofs.laws.open_answers_are_counted.Goals as goal
-
-pub returns : goal.returns
-returns c input before right test above = open_counted input before right test above

@@ -1,5 +1,0 @@
-use Rattle.report_rules.proofs.InputExists.{has_input}
-use Rattle.report_rules.proofs.laws.priority_has_input.Goals as goal
-
-pub returns : goal.returns
-returns c p h = has_input p h

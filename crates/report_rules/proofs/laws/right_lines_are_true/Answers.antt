@@ -1,5 +1,0 @@
-use Rattle.report_rules.proofs.TruthLemmas.{right_lines_true}
-use Rattle.report_rules.proofs.laws.right_lines_are_true.Goals as goal
-
-pub returns : goal.returns
-returns c input before right acyclic = right_lines_true input before right acyclic

@@ -1,5 +1,0 @@
-use Rattle.report_rules.proofs.DeskLemmas.{options_stay}
-use Rattle.report_rules.proofs.open_laws.answers_keep_options.Goals as goal
-
-pub returns : goal.returns
-returns c input before right = options_stay input before right

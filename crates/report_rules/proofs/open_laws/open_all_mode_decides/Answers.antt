@@ -1,5 +1,0 @@
-use Rattle.report_rules.proofs.EasyLemmas.{open_all_decides}
-use Rattle.report_rules.proofs.open_laws.open_all_mode_decides.Goals as goal
-
-pub returns : goal.returns
-returns c input before right all lists cores brave ar iar b a i = open_all_decides input before right all lists cores brave ar iar b a i

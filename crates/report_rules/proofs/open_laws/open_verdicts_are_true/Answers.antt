@@ -1,5 +1,0 @@
-use Rattle.report_rules.proofs.VerdictLemmas.{verdict_true}
-use Rattle.report_rules.proofs.open_laws.open_verdicts_are_true.Goals as goal
-
-pub returns : goal.returns
-returns c input before right rests acyclic cores q said settled = verdict_true input before right rests acyclic cores q said settled

@@ -1,5 +1,0 @@
-use Rattle.report_rules.proofs.HeldLemmas.{right_hold}
-use Rattle.report_rules.proofs.open_laws.right_lines_hold.Goals as goal
-
-pub returns : goal.returns
-returns c input before right closed = right_hold input before right closed

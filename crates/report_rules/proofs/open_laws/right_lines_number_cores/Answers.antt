@@ -1,5 +1,0 @@
-use Rattle.report_rules.proofs.NumberLemmas.{right_cores_numbered}
-use Rattle.report_rules.proofs.open_laws.right_lines_number_cores.Goals as goal
-
-pub returns : goal.returns
-returns c input before right = right_cores_numbered input before right

@@ -1,5 +1,0 @@
-use Rattle.report_rules.proofs.ScopeLemmas.{keeps_to}
-use Rattle.report_rules.proofs.scope_laws.apart_or_marked.Goals as goal
-
-pub returns : goal.returns
-returns c kb a facts clause scope inside h = keeps_to kb a facts scope clause inside h

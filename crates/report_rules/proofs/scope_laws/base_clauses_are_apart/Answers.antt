@@ -1,5 +1,0 @@
-use Rattle.report_rules.proofs.ScopeLemmas.{base_apart, apart_sided}
-use Rattle.report_rules.proofs.scope_laws.base_clauses_are_apart.Goals as goal
-
-pub returns : goal.returns
-returns c kb mode clause base = let h = base_apart kb mode clause base in (h, λ a facts scope. apart_sided kb a facts scope clause h)

@@ -1,5 +1,0 @@
-use Rattle.report_rules.proofs.BoundLemmas.{graph_tells}
-use Rattle.report_rules.proofs.scope_laws.conflicts_tell_bounds.Goals as goal
-
-pub returns : goal.returns
-returns c kb g of = graph_tells kb g of

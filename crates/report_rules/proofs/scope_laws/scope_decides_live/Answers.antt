@@ -1,5 +1,0 @@
-use Rattle.report_rules.proofs.ScopeRules.{scope_decides}
-use Rattle.report_rules.proofs.scope_laws.scope_decides_live.Goals as goal
-
-pub returns : goal.returns
-returns c input before scope right h acyclic separated = scope_decides input before scope right h acyclic separated

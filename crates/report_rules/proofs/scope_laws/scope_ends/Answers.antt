@@ -1,5 +1,0 @@
-use Rattle.report_rules.proofs.ScopeLines.{scope_ends}
-use Rattle.report_rules.proofs.scope_laws.scope_ends.Goals as goal
-
-pub returns : goal.returns
-returns c kb before facts w brave ar iar cores names tuple = scope_ends kb before facts w brave ar iar cores names tuple

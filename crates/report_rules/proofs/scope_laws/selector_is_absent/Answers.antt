@@ -1,5 +1,0 @@
-use Rattle.report_rules.proofs.ScopeLines.{selector_absent}
-use Rattle.report_rules.proofs.scope_laws.selector_is_absent.Goals as goal
-
-pub returns : goal.returns
-returns c input before right h clause live k = selector_absent input before right h clause live k

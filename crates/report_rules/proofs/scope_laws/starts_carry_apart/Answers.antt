@@ -1,5 +1,0 @@
-use Rattle.report_rules.proofs.StartLemmas.{starts_carry_apart}
-use Rattle.report_rules.proofs.scope_laws.starts_carry_apart.Goals as goal
-
-pub returns : goal.returns
-returns c kb start before told = starts_carry_apart kb start before told
