@@ -16,6 +16,8 @@ mod head;
 mod learn;
 mod line;
 mod line_sink;
+#[cfg(test)]
+mod made_lines;
 mod pieces;
 mod printing;
 mod reading;

@@ -60,7 +60,7 @@ pub fn read(alloc: Global, bytes: &[u8]) -> Result<Line, ReadRefusal>
 
 /// The line whose text the bytes are, where it is found with no JSON value: it is of one of the kinds
 /// that are many, and no name needs an escape.
-fn read_at_once(alloc: Global, bytes: &[u8]) -> Result<Option<Line>, NoMemory>
+pub fn read_at_once(alloc: Global, bytes: &[u8]) -> Result<Option<Line>, NoMemory>
     ensures exact { IfOk result
         (λ o. IfSome o (λ line. IsWellFormed line × (bytes.now ≡ text_of line))) }
 {
@@ -71,8 +71,8 @@ fn read_at_once(alloc: Global, bytes: &[u8]) -> Result<Option<Line>, NoMemory>
     if same { Ok(Some(line)) } else { Ok(None) }
 }
 
-/// The line whose text the bytes are, of any kind.
-fn read_by_value(alloc: Global, bytes: &[u8]) -> Result<Line, ReadRefusal>
+/// The line whose text the bytes are, of any kind, and whatever the names have.
+pub fn read_by_value(alloc: Global, bytes: &[u8]) -> Result<Line, ReadRefusal>
     ensures exact { IfOk result (λ line. IsWellFormed line × (bytes.now ≡ text_of line)) }
     ensures bad_line { IsErrOf result ReadRefusal.BadLine
         → (line : Line) → IsWellFormed line → ¬ (bytes.now ≡ text_of line) }
