@@ -22,6 +22,13 @@ pub mod HeldLemmas
 pub mod HitLemmas
 pub mod InputExists
 pub mod JudgingLemmas
+pub mod LearningAnswers
+pub mod LearningCandidates
+pub mod LearningHead
+pub mod LearningLines
+pub mod LearningReport
+pub mod LearningTable
+pub mod LearningTries
 pub mod ListLemmas
 pub mod LiteralLemmas
 pub mod LiveLemmas
@@ -30,6 +37,7 @@ pub mod NumberLemmas
 pub mod OverPriorityLemmas
 pub mod PlaceLemmas
 pub mod PriorityLemmas
+pub mod PropagationTests
 pub mod ReportLemmas
 pub mod ScopeLemmas
 pub mod ScopeLines

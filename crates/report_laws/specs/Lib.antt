@@ -12,6 +12,7 @@ pub mod Examples
 pub mod HitLaws
 pub mod Judging
 pub mod Laws
+pub mod LearningExample
 pub mod ListLaws
 pub mod LiveLists
 pub mod OpenAnswers

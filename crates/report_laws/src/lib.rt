@@ -6,7 +6,7 @@ mod laws;
 mod open_laws;
 mod scope_laws;
 
-pub use examples::staff_reports;
+pub use examples::{learning_reports, staff_reports};
 pub use laws::{
     accepted_by_the_rest, accepted_is_true, accepted_pieces, accepted_report_is_of_lines,
     accepted_report_is_true, all_mode_decides, answers_are_counted, base_clauses_of_priority,
