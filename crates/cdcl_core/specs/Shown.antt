@@ -11,8 +11,10 @@ use Rattle.cdcl_core.specs.Store.{Parts, IsKept}
 abbrev pub parts_of : StoreInside → Parts
 parts_of s = record { arena = s.arena; labels = s.labels.items; trail = s.trail; next = s.next }
 
-abbrev pub StoreIsKept : StoreInside → Type 0
-StoreIsKept s = IsKept (parts_of s)
+-- the parts are kept, and there is a mark for each literal
+pub record StoreIsKept (s : StoreInside) : Type 0 where
+  pub kept : IsKept (parts_of s)
+  pub marks : s.marks ≡ s.arena.variables
 
 -- the literals that the entries make true
 abbrev pub literals_on : List Entry → List ℕ

@@ -19,7 +19,7 @@ ghost use Rattle.cdcl_core.specs.Seeking.{Seeks, IsSameQuestion, Fixes, Begins, 
 use cdcl_trail::Trail;
 use clause_arena::{Arena, ClauseRef};
 use clause_meaning::{literal_of, variable_of};
-use conflict_analysis::{Lesson, analyse};
+use conflict_analysis::{Lesson, Marks, analyse};
 use cq_terms::NoMemory;
 use std::alloc::Global;
 
@@ -238,16 +238,19 @@ pub fn lesson_of(
     trail: &Trail,
     arena: &Arena,
     conflict: ClauseRef,
+    marks: &mut Marks,
 ) -> Result<Lesson, NoMemory>
     requires searching { IsSearching trail.now arena.now }
     requires conflict { IsConflict trail.now arena.now conflict }
     requires guessed { 0 < trail.now.level }
+    requires marks { marks.old ≡ trail.now.variables }
 
     ensures exact { IfOk result (λ lesson. IsLesson (Searched trail.now arena.now) trail.now
         lesson.literals.items lesson.asserting lesson.back) }
     ensures ascending { IfOk result (λ lesson. IsSorted nat_cmp lesson.literals.items) }
+    ensures marks { marks.new ≡ marks.old }
 {
-    let mut lesson = analyse(alloc, trail, arena, conflict)?;
+    let mut lesson = analyse(alloc, trail, arena, conflict, marks)?;
     lesson.literals.sort_unstable();
     Ok(lesson)
 }

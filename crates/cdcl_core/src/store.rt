@@ -27,18 +27,19 @@ use crate::seeking::{Stop, advance, assert_lesson, begin, lesson_of, prefer};
 use cdcl_trail::Trail;
 use clause_arena::{Arena, ClauseRef};
 use clause_meaning::literal_of;
-use conflict_analysis::Lesson;
+use conflict_analysis::{Lesson, Marks};
 use cq_terms::{Longs, NoMemory};
 use std::alloc::Global;
 use std::marker::Model;
 
-/// Live clauses with their labels, in the same order, and the trail over their variables.
+/// Live clauses with their labels, in the same order, the trail over their variables, and room for marks of their literals.
 #[derive(Drop)]
 pub struct Store {
     arena: Arena,
     labels: Vec<Label>,
     trail: Trail,
     next: u64,
+    marks: Marks,
 }
 
 impl Model for Store {
@@ -67,6 +68,7 @@ impl Store {
             labels: Vec::new(alloc),
             trail: Trail::new(alloc, variables)?,
             next: 0,
+            marks: Marks::new(alloc, variables)?,
         })
     }
 
@@ -192,7 +194,13 @@ impl Store {
         ensures failed { IfErr result (FailsOn (bare self.old) (bare self.new) self.old.trail.focus
             (L.content log.old) (L.content log.new) (L.faults log.old) (L.faults log.new)) }
     {
-        let lesson = prepare(&mut self.arena, &mut self.labels, &self.trail, conflict)?;
+        let lesson = prepare(
+            &mut self.arena,
+            &mut self.labels,
+            &self.trail,
+            conflict,
+            &mut self.marks,
+        )?;
         match write_learned(log, self.next, lesson.literals.as_slice()) {
             Ok(()) => {}
             Err(fault) => return Err(fault),
@@ -215,10 +223,12 @@ fn prepare(
     labels: &mut Vec<Label>,
     trail: &Trail,
     conflict: ClauseRef,
+    marks: &mut Marks,
 ) -> Result<Lesson, NoMemory>
     requires searching { IsSearching trail.now arena.old }
     requires conflict { IsConflict trail.now arena.old conflict }
     requires guessed { 0 < trail.now.level }
+    requires marks { marks.old ≡ trail.now.variables }
 
     ensures lesson { IfOk result (λ lesson. IsLesson (Searched trail.now arena.old) trail.now
         lesson.literals.items lesson.asserting lesson.back) }
@@ -228,8 +238,9 @@ fn prepare(
 
     ensures same_clauses { Holds arena.old arena.new arena.old.live }
     ensures same_labels { labels.new.items ≡ labels.old.items }
+    ensures marks { marks.new ≡ marks.old }
 {
-    let lesson = lesson_of(*labels.allocator(), trail, arena, conflict)?;
+    let lesson = lesson_of(*labels.allocator(), trail, arena, conflict, marks)?;
     arena.reserve(lesson.literals.len())?;
     labels.reserve(1)?;
     Ok(lesson)

@@ -8,9 +8,9 @@ use Rattle.cdcl_trail.specs.declared.entry.Entry.{Entry}
 use Rattle.cdcl_trail.specs.Assigned.{IsTrueOn, IsUnassigned}
 use Rattle.cdcl_trail.specs.Table.{AreDistinct}
 use Rattle.cdcl_trail.specs.Values.{IsAssigned, HasLevel}
-use Rattle.conflict_analysis.specs.Levels.{IsKnownAt, BecameFalse}
+use Rattle.conflict_analysis.specs.Levels.{IsKnownAt, IsOnLevel, BecameFalse}
 use Rattle.conflict_analysis.specs.Resolving.{IsOpen}
-use Rattle.conflict_analysis.proofs.LevelFacts.{same_entry, BecameFalse-from, known_later, on_level_known}
+use Rattle.conflict_analysis.proofs.LevelFacts.{same_entry, BecameFalse-from, known_later, on_level_known, on_level_first}
 
 pub assigned_by : (entries : List Entry) (l : ℕ) → IsTrueOn entries (opposite_of l) → IsAssigned entries (variable_of l)
 assigned_by entries l (k, e, p, is, same) = (k, e, p, is, ap variable_of same ∙ variable_of-opposite_of l)
@@ -71,3 +71,13 @@ fixed_by_level entries n l low f = known_later entries n 0 (opposite_of l) low (
 -- an unassigned literal isn't false
 pub unassigned_not_false : (entries : List Entry) (l : ℕ) → IsUnassigned entries (variable_of l) → IsTrueOn entries (opposite_of l) → ⊥
 unassigned_not_false entries l free on = free (opposite_of l) (variable_of-opposite_of l) on
+
+-- a literal that became false on a level is of this level alone
+pub on_level_at : (entries : List Entry) (n m l : ℕ) → n ≡ m → BecameFalse entries n l → IsOnLevel entries m (opposite_of l)
+on_level_at entries n m l same f = subst (λ (k : ℕ). IsOnLevel entries k (opposite_of l)) same f.on_level
+
+pub not_on_level : (entries : List Entry) (n m l : ℕ) → AreDistinct entries → n ≢ m → BecameFalse entries n l → IsOnLevel entries m (opposite_of l) → ⊥
+not_on_level entries n m l distinct other f on =
+    let up = on_level_first entries m n (opposite_of l) distinct on (on_level_known entries n (opposite_of l) f.on_level) in
+    let down = on_level_first entries n m (opposite_of l) distinct f.on_level (on_level_known entries m (opposite_of l) on) in
+    other (omega (arith, up, down))

@@ -15,5 +15,7 @@ pub mod OneSided
 pub mod Sieve
 pub mod HighestLevel
 pub mod Additions
+pub mod Marked
+pub mod Listing
 pub mod Permuted
 pub mod TestLemmas

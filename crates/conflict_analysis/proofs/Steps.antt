@@ -1,6 +1,6 @@
 -- One step of resolution, and what the last resolvent is.
 use Rattle.std.proofs.Common.{◌≡◌, ◌≢◌, ℕ, ◌<◌, ◌≤◌, ◌+◌, min, ◌⊎◌, inl, inr, List, length, take, get_or, Contains, All, Option, None, Some, map, refl, sym, subst, ap, ◌∙◌, arith}
-use Rattle.std.proofs.lemmas.Bool.{cases_eq}
+use Rattle.std.proofs.lemmas.Bool.{cases_eq, cases_lt}
 use Rattle.std.proofs.lemmas.List.{length-take, get_or-take, get_or_default, get_or-map}
 use Rattle.std.proofs.lemmas.List.Elements.{Contains-get_or, All-contains}
 use Rattle.clause_meaning.specs.Literals.{opposite_of, variable_of, AreBelow}
@@ -19,7 +19,7 @@ use Rattle.conflict_analysis.specs.Levels.{IsKnownAt, IsOnLevel, BecameFalse}
 use Rattle.clause_meaning.specs.Learning.{Nothing, IsLearnable}
 use Rattle.conflict_analysis.specs.Searching.{Searched, IsSearching}
 use Rattle.conflict_analysis.specs.Lessons.{Asserts, IsLesson}
-use Rattle.conflict_analysis.specs.Resolving.{Joins, TakesOut, IsResolvent, HasOther, IsFalseAt}
+use Rattle.conflict_analysis.specs.Resolving.{IsOnce, Joins, TakesOut, IsResolvent, HasOther, IsFalseAt}
 use Rattle.conflict_analysis.proofs.Closed.{IsClosed-undecided, IsClosed-contains_none}
 use Rattle.conflict_analysis.proofs.Implied.{IsImplied-step, IsImplied-follows}
 use Rattle.conflict_analysis.proofs.Joining.{JoinsNone-step, JoinsNone-nothing}
@@ -215,10 +215,57 @@ pub false_at : (entries : List Entry) (literals : List ℕ) (i q : ℕ) → lite
 false_at entries literals i q lent below is d =
     is ∙ ap opposite_of (ap (λ (xs : List ℕ). get_or xs i 0) lent ∙ get_or-map (λ (e : Entry). e.literal) entries i d 0 below)
 
--- what is found at the end
-pub lesson_found : (trail : State) (arena : Arena) (old new : List ℕ) (place q back : ℕ) → IsSearching trail arena → 0 < trail.level → IsResolvent trail arena old place
-    → (new ≡ old) × Asserts trail new q back → IsLesson (Searched trail arena) trail new q back
-lesson_found trail arena old new place q back s above r (same, asserts) = record {
-  learnable = IsLearnable-from trail arena new place q back s above (subst (λ (xs : List ℕ). IsResolvent trail arena xs place) (sym same) r) asserts;
-  asserts = asserts;
+-- a literal of the resolvent that became false at its last place is of the current level
+pub on_level_here : (trail : State) (arena : Arena) (literals : List ℕ) (i q : ℕ) → IsSearching trail arena → AreDistinct trail.entries → i < length trail.entries
+    → IsResolvent trail arena literals (i + 1) → IsFalseAt trail.entries i q → IsOnLevel trail.entries trail.level (opposite_of q)
+on_level_here trail arena literals i q s distinct below r at =
+    elim (true_take_cases trail.entries i (opposite_of k) some_entry below (r.before k r.newest.1)) [
+      | inr here ↦ subst (IsOnLevel trail.entries trail.level) (sym here ∙ sym forced_is) r.newest.2
+      | inl (j, x, p, is, same) ↦ (let place = Contains-get_or trail.entries i some_entry below in
+          (place.0, get_or trail.entries i some_entry, place.1, place.2, (sym forced_is, level_here j x p is same r.newest.2)))
+    ]
+  where
+    k : ℕ
+    k = r.newest.0
+
+    forced_is : opposite_of q ≡ (get_or trail.entries i some_entry).literal
+    forced_is = ap opposite_of (at some_entry) ∙ opposite_of-opposite_of (get_or trail.entries i some_entry).literal
+
+    level_here : (j : ℕ) (x : Entry) → j < length (take i trail.entries) → get_or (take i trail.entries) j x ≡ x → x.literal ≡ opposite_of k → IsOnLevel trail.entries trail.level (opposite_of k)
+        → (get_or trail.entries i some_entry).level ≡ trail.level
+    level_here j x p is same (a, e, q', was, (same_e, on)) =
+        let short : j < min i (length trail.entries) = subst (λ z. j < z) (length-take i trail.entries) p in
+        let first : get_or trail.entries j x ≡ x = sym (get_or-take i trail.entries j x (omega arith)) ∙ is in
+        let one : x ≡ e = same_entry trail.entries x e distinct (Contains-take trail.entries i x (j, p, is)) (a, q', was) (ap variable_of (same ∙ sym same_e)) in
+        let level : (get_or trail.entries j some_entry).level ≡ e.level = ap (λ (y : Entry). y.level) (get_or_default trail.entries j some_entry x (omega arith) ∙ (first ∙ one)) in
+        let rise : (get_or trail.entries j some_entry).level ≤ (get_or trail.entries i some_entry).level = s.searched.ascending j i some_entry (omega arith) below in
+        let top : (get_or trail.entries i some_entry).level ≤ trail.level = s.searched.up_to i some_entry below in
+        omega (arith, level, rise, top, on)
+
+-- the same literals in another list
+pub IsResolvent-listed : (trail : State) (arena : Arena) (old new : List ℕ) (place : ℕ) → IsResolvent trail arena old place → ((k : ℕ) → Contains old k → Contains new k)
+    → ((k : ℕ) → Contains new k → Contains old k) → IsOnce new → IsResolvent trail arena new place
+IsResolvent-listed trail arena old new place r to from once = record {
+  before = λ k m. r.before k (from k m);
+  above = λ k m. r.above k (from k m);
+  once = once;
+  in_range = λ k m. r.in_range k (from k m);
+  newest = (r.newest.0, to r.newest.0 r.newest.1, r.newest.2);
+  occur = λ k m. r.occur k (from k m);
+  implied = λ L h. r.implied L (λ k m. h k (to k m));
+  joins = λ m never part parts. elim (r.joins m never part parts) [
+    | inl (l, p, e) ↦ inl (l, to l p, e)
+    | inr (inl inside) ↦ inr (inl (λ l p. inside l (from l p)))
+    | inr (inr outside) ↦ inr (inr (λ l p. outside l (from l p)))
+  ];
 }
+
+-- what is found at the end
+pub lesson_found : (trail : State) (arena : Arena) (literals : List ℕ) (place q back : ℕ) → IsSearching trail arena → AreDistinct trail.entries → 0 < trail.level
+    → IsResolvent trail arena literals place → Contains literals q → (HasOther trail literals q → ⊥)
+    → ((k : ℕ) → Contains literals k → k ≢ q → IsKnownAt trail.entries back (opposite_of k))
+    → (back ≡ 0) ⊎ ((k : ℕ) × Contains literals k × (k ≢ q) × BecameFalse trail.entries back k) → IsLesson (Searched trail arena) trail literals q back
+lesson_found trail arena literals place q back s distinct above r has alone known reached =
+    let low : back < trail.level = elim (cases_lt back trail.level) [ inl h ↦ h | inr h ↦ absurd (alone (other_on_level trail arena literals q back s above h reached)) ] in
+    let asserts : Asserts trail literals q back = Asserts-from trail arena literals place q back distinct r has low known reached in
+    record { learnable = IsLearnable-from trail arena literals place q back s above r asserts; asserts = asserts }

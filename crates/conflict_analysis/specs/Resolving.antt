@@ -1,16 +1,14 @@
 -- Resolution along the trail, by membership.
-use Rattle.std.specs.Prelude.{◌≡◌, ◌≢◌, ◌⊎◌, ◌<◌, ◌*◌, ℕ, List, AllPairs, Contains, Option, None, Some, take, slice_index_or}
+use Rattle.std.specs.Prelude.{◌≡◌, ◌≢◌, ◌⊎◌, ◌<◌, ◌*◌, ℕ, List, AllPairs, Contains, take, slice_index_or}
 use Rattle.clause_meaning.specs.Literals.{opposite_of, variable_of}
 use Rattle.clause_meaning.specs.Refutation.{Refutes, Reaches}
 use Rattle.clause_arena.specs.State.{State as Arena}
 use Rattle.cdcl_trail.specs.declared.entry.Entry.{Entry}
 use Rattle.cdcl_trail.specs.Assigned.{IsTrueOn}
 use Rattle.cdcl_trail.specs.State.{State}
-use Rattle.conflict_analysis.specs.declared.analysis.Assertion.{Assertion}
 use Rattle.conflict_analysis.specs.Levels.{IsKnownAt, IsOnLevel}
 use Rattle.clause_meaning.specs.Learning.{OccursIn, IsOneSided, Parts, is_in}
 use Rattle.conflict_analysis.specs.Searching.{Searched}
-use Rattle.conflict_analysis.specs.Lessons.{Asserts}
 
 -- the literal is false, and not on level 0
 pub record IsOpen (entries : List Entry) (l : ℕ) : Type 0 where
@@ -65,8 +63,3 @@ HasOther trail literals l = (k : ℕ) × Contains literals k × (k ≢ l) × IsO
 -- the literal became false by the entry at this place
 abbrev pub IsFalseAt : List Entry → ℕ → ℕ → Type 0
 IsFalseAt entries place l = (d : Entry) → l ≡ opposite_of (slice_index_or entries place d).literal
-
--- what a look at a place of the trail leaves: a resolvent that ends before the place, or an asserting literal and the same resolvent
-abbrev pub LooksBack : State → Arena → List ℕ → ℕ → List ℕ → Option Assertion → Type 0
-LooksBack trail arena old place new None = IsResolvent trail arena new place
-LooksBack trail arena old place new (Some found) = (new ≡ old) × Asserts trail new found.literal found.back

@@ -1,32 +1,88 @@
 //! Resolution along the trail, from the clause that is false back to the first unique implication point.
 
-ghost use Rattle.std.specs.Prelude.{◌<◌, ◌+◌, Contains, IfOk, OnOk, length};
+ghost use Rattle.std.specs.Prelude.{◌≡◌, ◌<◌, ◌+◌, [], ℕ, List, Contains, IfOk, OnOk, length};
 ghost use Rattle.cdcl_trail.specs.Fits.{IsConflict};
 ghost use Rattle.cdcl_trail.specs.Table.{AreDistinct};
 ghost use Rattle.conflict_analysis.specs.Searching.{IsSearching, Searched};
 ghost use Rattle.conflict_analysis.specs.Lessons.{IsLesson};
-ghost use Rattle.conflict_analysis.specs.Resolving.{IsResolvent, IsFalseAt, HasOther, LooksBack};
+ghost use Rattle.conflict_analysis.specs.Resolving.{IsResolvent, IsFalseAt, HasOther};
+ghost use Rattle.conflict_analysis.specs.Marking.{IsCovered, Shows, Holds, LooksBack};
 
 use crate::falsity::highest_other;
 use crate::lesson::Lesson;
-use crate::resolving::{join, take_out};
+use crate::resolving::{Resolvent, has_mark, join, list_marked, take_out, unmark};
 use cdcl_trail::Trail;
 use clause_arena::{Arena, ClauseRef};
 use clause_meaning::{opposite, variable_of};
 use cq_terms::NoMemory;
 use std::alloc::Global;
+use std::marker::Model;
 
-/// The one literal of a resolvent that is of the current level, and the highest level of the others.
-#[derive(Clone, Copy)]
-struct Assertion {
-    literal: u32,
-    back: u32,
+/// Room for marks of the literals of a number of variables, as which it is seen. Between calls nothing is marked.
+#[derive(Drop)]
+pub struct Marks {
+    variables: u32,
+    resolvent: Resolvent,
+}
+
+impl Model for Marks {
+    ghost use Rattle.std.specs.Prelude.{ℕ};
+
+    ghost Value = { ℕ };
+
+    ghost use Rattle.conflict_analysis.specs.Unmarked.{shown, IsUnmarked};
+
+    ghost view = { shown };
+
+    ghost invariant = { IsUnmarked };
+}
+
+impl Marks {
+    /// Room for the marks of so many variables.
+    pub fn new(alloc: Global, variables: u32) -> Result<Marks, NoMemory>
+        ensures { IfOk result (λ marks. marks ≡ variables) }
+    {
+        Ok(Marks {
+            variables,
+            resolvent: Resolvent {
+                marks: vec![in alloc; false; 2 * variables as usize]?,
+                touched: Vec::new(alloc),
+                newest: 0,
+            },
+        })
+    }
 }
 
 /// What a conflict teaches, by resolution along the trail up to the first unique implication point (Marques-Silva and Sakallah
-/// 1999; Zhang and others 2001). Literals of level 0 are left out, and no others. It gives up only for want of memory.
+/// 1999; Zhang and others 2001). Literals of level 0 are left out, and no others. It gives up only for want of memory. It costs what it
+/// touches, since the marks are there before, and none of them is left.
 pub fn analyse(
     alloc: Global,
+    trail: &Trail,
+    arena: &Arena,
+    conflict: ClauseRef,
+    marks: &mut Marks,
+) -> Result<Lesson, NoMemory>
+    requires searching { IsSearching trail.now arena.now }
+    requires conflict { IsConflict trail.now arena.now conflict }
+    requires guessed { 0 < trail.now.level }
+    requires marks { marks.old ≡ trail.now.variables }
+
+    ensures exact { IfOk result (λ lesson. IsLesson (Searched trail.now arena.now) trail.now
+        lesson.literals.items lesson.asserting lesson.back) }
+    ensures marks { marks.new ≡ marks.old }
+{
+    let lesson = walk_back(alloc, &mut marks.resolvent, trail, arena, conflict);
+    unmark(&mut marks.resolvent.marks, &marks.resolvent.touched);
+    marks.resolvent.touched.clear();
+    marks.resolvent.newest = 0;
+    lesson
+}
+
+/// Walks back along the trail until one literal of the current level is left. It may leave marks.
+fn walk_back(
+    alloc: Global,
+    resolvent: &mut Resolvent,
     trail: &Trail,
     arena: &Arena,
     conflict: ClauseRef,
@@ -34,20 +90,24 @@ pub fn analyse(
     requires searching { IsSearching trail.now arena.now }
     requires conflict { IsConflict trail.now arena.now conflict }
     requires guessed { 0 < trail.now.level }
+    requires covered { IsCovered trail.now.variables resolvent.old }
+    requires none { Shows trail.now resolvent.old [] }
 
     ensures exact { IfOk result (λ lesson. IsLesson (Searched trail.now arena.now) trail.now
         lesson.literals.items lesson.asserting lesson.back) }
+    ensures covered { IsCovered trail.now.variables resolvent.new }
 {
     let mut place = trail.literals().len();
-    let mut literals = Vec::new(alloc);
-    join(&mut literals, trail, arena.view(conflict))?;
+    join(resolvent, trail, arena.view(conflict))?;
     while place > 0 {
         place -= 1;
-        if let Some(found) = look_back(&mut literals, trail, arena, place)? {
+        if let Some(asserting) = look_back(resolvent, trail, arena, place)? {
+            let literals = list_marked(alloc, &mut resolvent.marks, &resolvent.touched)?;
+            let back = highest_other(trail, &literals, asserting);
             return Ok(Lesson {
                 literals,
-                asserting: found.literal,
-                back: found.back,
+                asserting,
+                back,
             });
         }
     }
@@ -57,33 +117,34 @@ pub fn analyse(
 /// Looks at a place of the trail. Where its literal became false in the resolvent, it is the only one of the current level there, or it is
 /// resolved away.
 fn look_back(
-    literals: &mut Vec<u32>,
+    resolvent: &mut Resolvent,
     trail: &Trail,
     arena: &Arena,
     place: usize,
-) -> Result<Option<Assertion>, NoMemory>
+) -> Result<Option<u32>, NoMemory>
     requires searching { IsSearching trail.now arena.now }
     requires guessed { 0 < trail.now.level }
     requires place { place < length trail.now.entries }
-    requires resolvent { IsResolvent trail.now arena.now literals.old.items (place + 1) }
+    requires covered { IsCovered trail.now.variables resolvent.old }
+    requires resolvent { Holds trail.now arena.now resolvent.old (place + 1) }
 
-    ensures { IfOk result (LooksBack trail.now arena.now literals.old.items place literals.new.items) }
+    ensures covered { IsCovered trail.now.variables resolvent.new }
+    ensures looks { IfOk result (LooksBack trail.now arena.now resolvent.new place) }
 {
     let literal = opposite(trail.literals()[place]);
-    if !literals.contains(&literal) {
+    if !has_mark(&resolvent.marks, literal) {
         return Ok(None);
     }
-    let back = highest_other(trail, literals, literal);
-    if back < trail.level() {
-        return Ok(Some(Assertion { literal, back }));
+    if resolvent.newest == 1 {
+        return Ok(Some(literal));
     }
-    resolve(literals, trail, arena, place, literal)?;
+    resolve(resolvent, trail, arena, place, literal)?;
     Ok(None)
 }
 
 /// Resolves a literal away, with the clause that forced its opposite.
 fn resolve(
-    literals: &mut Vec<u32>,
+    resolvent: &mut Resolvent,
     trail: &Trail,
     arena: &Arena,
     place: usize,
@@ -93,17 +154,18 @@ fn resolve(
     requires distinct { AreDistinct trail.now.entries }
     requires guessed { 0 < trail.now.level }
     requires place { place < length trail.now.entries }
-    requires resolvent { IsResolvent trail.now arena.now literals.old.items (place + 1) }
+    requires covered { IsCovered trail.now.variables resolvent.old }
+    requires resolvent { (literals : List ℕ) × Shows trail.now resolvent.old literals × IsResolvent trail.now arena.now literals (place + 1)
+        × Contains literals literal × HasOther trail.now literals literal }
     requires at { IsFalseAt trail.now.entries place literal }
-    requires member { Contains literals.old.items literal }
-    requires other { HasOther trail.now literals.old.items literal }
 
-    ensures { OnOk result (IsResolvent trail.now arena.now literals.new.items place) }
+    ensures covered { IsCovered trail.now.variables resolvent.new }
+    ensures holds { OnOk result (Holds trail.now arena.now resolvent.new place) }
 {
     match trail.reason(variable_of(literal)) {
         Some(reason) => {
-            take_out(literals, literal);
-            join(literals, trail, arena.view(reason))?;
+            take_out(resolvent, literal);
+            join(resolvent, trail, arena.view(reason))?;
             Ok(())
         }
         None => unreachable!(),

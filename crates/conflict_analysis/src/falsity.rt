@@ -6,6 +6,7 @@ ghost use Rattle.cdcl_trail.specs.Assigned.{IsTrueOn};
 ghost use Rattle.cdcl_trail.specs.Table.{AreDistinct};
 ghost use Rattle.conflict_analysis.specs.Levels.{IsKnownAt, BecameFalse};
 ghost use Rattle.conflict_analysis.specs.Resolving.{IsOpen};
+ghost use Rattle.conflict_analysis.specs.Marking.{CountsAs};
 
 use cdcl_trail::Trail;
 use clause_meaning::variable_of;
@@ -34,6 +35,21 @@ pub fn is_open(trail: &Trail, literal: u32) -> bool
         Some(false) => level_of_false(trail, literal) > 0,
         Some(true) => false,
         None => false,
+    }
+}
+
+/// How many literals of the current level this false literal is: one or none.
+pub fn count_newest(trail: &Trail, literal: u32) -> usize
+    requires in_range { variable_of literal < trail.now.variables }
+    requires distinct { AreDistinct trail.now.entries }
+    requires refuted { IsTrueOn trail.now.entries (opposite_of literal) }
+
+    ensures { CountsAs trail.now literal result }
+{
+    if level_of_false(trail, literal) == trail.level() {
+        1
+    } else {
+        0
     }
 }
 

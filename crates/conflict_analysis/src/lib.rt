@@ -8,5 +8,5 @@ mod resolving;
 #[cfg(test)]
 mod tests;
 
-pub use analysis::analyse;
+pub use analysis::{Marks, analyse};
 pub use lesson::Lesson;

@@ -121,11 +121,13 @@ fn learn(
     trail: &mut Trail,
     arena: &Arena,
     literal: u32,
+    marks: &mut Marks,
 ) -> Result<Lesson, NoMemory>
-    requires { IsReady trail.old arena.now }
+    requires ready { IsReady trail.old arena.now }
+    requires marks { marks.old ≡ 3 }
 {
     match try_guess(rt, trail, arena, literal) {
-        Some(conflict) => analyse(alloc, trail, arena, conflict),
+        Some(conflict) => analyse(alloc, trail, arena, conflict, marks),
         None => panic!(rt; "no conflict"),
     }
 }
@@ -139,8 +141,9 @@ fn a_unit_clause_is_learned(rt: HostRuntime) -> Result<(), Fail> {
     put_two(&rt, &mut arena, 1, 2)?;
     put_two(&rt, &mut arena, 1, 3)?;
     let mut trail = Trail::new(rt.alloc(), 3)?;
+    let mut marks = Marks::new(rt.alloc(), 3)?;
     assert!(rt; begin(&mut trail, &arena));
-    let lesson = learn(&rt, rt.alloc(), &mut trail, &arena, 1)?;
+    let lesson = learn(&rt, rt.alloc(), &mut trail, &arena, 1, &mut marks)?;
     assert!(rt; lesson.literals.as_slice() == [0].as_slice());
     assert!(rt; lesson.asserting == 0 && lesson.back == 0);
     Ok(())
@@ -153,9 +156,10 @@ fn a_clause_of_two_levels_is_learned(rt: HostRuntime) -> Result<(), Fail> {
     put_three(&rt, &mut arena, 1, 3, 4)?;
     put_three(&rt, &mut arena, 1, 3, 5)?;
     let mut trail = Trail::new(rt.alloc(), 3)?;
+    let mut marks = Marks::new(rt.alloc(), 3)?;
     assert!(rt; begin(&mut trail, &arena));
     pass(&rt, &mut trail, &arena, 0);
-    let lesson = learn(&rt, rt.alloc(), &mut trail, &arena, 2)?;
+    let lesson = learn(&rt, rt.alloc(), &mut trail, &arena, 2, &mut marks)?;
     assert!(rt; lesson.literals.len() == 2);
     assert!(rt; lesson.literals.contains(&1) && lesson.literals.contains(&3));
     assert!(rt; lesson.asserting == 3 && lesson.back == 1);

@@ -1,17 +1,22 @@
-use Rattle.std.proofs.Common.{ℕ, List, [], ◌∷◌, Contains, inl, sym, subst}
-use Rattle.conflict_analysis.specs.Resolving.{Joins}
-use Rattle.conflict_analysis.proofs.Additions.{Joins-kept, Joins-pushed, has_from_any, lacks_from_any}
+use Rattle.std.proofs.Common.{List, Bool, refl, sym, subst, ◌∙◌, arith}
+use Rattle.std.proofs.lemmas.Bool.{both_ways}
+use Rattle.conflict_analysis.specs.Marking.{HasMark}
+use Rattle.conflict_analysis.proofs.Marked.{literal_below, IsCovered-put, JoinsIn-put, CountsAs-few}
 use Rattle.conflict_analysis.proofs.resolving.join_one.Goals as goal
 
-pub returns-then-contains : goal.returns-then-contains
-returns-then-contains c =
-    Joins-kept c.args.trail.now.entries c.args.literals.now.items c.args.literal
-    (λ on. inl (subst (λ (xs : List ℕ). Contains xs c.args.literal) c.deref.ensures.value (has_from_any c.deref.result.now c.args.literal c.contains.result c.contains.ensures.value c.if-contains.true)))
+pub index_mut-requires : goal.index_mut-requires
+index_mut-requires c =
+    let below = literal_below c.args.trail.now.variables c.args.literal c.requires.in_range in
+    omega (arith, below, c.requires.covered.room, c.args.resolvent.now.marks.ok.0)
 
-pub returns : goal.returns
-returns c =
-    let old = c.args.literals.now.items in
-    subst (λ (xs : List ℕ). Joins c.args.trail.now.entries old (c.args.literal ∷ []) xs) (sym c.in_ok-push.ensures.items)
-    (Joins-pushed c.args.trail.now.entries old c.args.literal
-    (λ m. lacks_from_any c.deref.result.now c.args.literal c.contains.result c.contains.ensures.value c.if-contains.false (subst (λ (xs : List ℕ). Contains xs c.args.literal) (sym c.deref.ensures.value) m))
-    (c.is_open.ensures.fresh c.if-not-is_open.false))
+pub returns-clause-covered : goal.returns-clause-covered
+returns-clause-covered c =
+    let few = CountsAs-few c.args.trail.now c.args.literal c.count_newest-count.result c.count_newest-count.ensures in
+    IsCovered-put c.args.trail.now.variables c.args.resolvent.now _ c.args.literal c.requires.covered (literal_below c.args.trail.now.variables c.args.literal c.requires.in_range)
+    refl c.in_ok-push.ensures.items (omega (arith, few))
+
+pub returns-clause-joins : goal.returns-clause-joins
+returns-clause-joins c =
+    let below = literal_below c.args.trail.now.variables c.args.literal c.requires.in_range in
+    JoinsIn-put c.args.trail.now c.args.resolvent.now _ c.args.literal c.count_newest-count.result (c.is_open.ensures.fresh c.if-not-is_open.false)
+    (omega (arith, below, c.requires.covered.room)) (λ m. both_ways _ c.if-has_mark.false (c.has_mark.ensures ∙ subst (λ (xs : List Bool). HasMark xs c.args.literal) (sym c.deref.ensures.value) m)) refl c.count_newest-count.ensures refl

@@ -29,9 +29,12 @@ invariant_of-self-2 c =
     let room : Parts = record parts { arena = c.reserve.new.self } in
     let label : Label = record { number = None; goes = false } in
     let labels : c.put.new.labels.items ≡ parts.labels ++ label ∷ [] = c.put.ensures.label ∙ ap (λ (ls : List Label). ls ++ label ∷ []) c.reserve-2.ensures.items in
-    let kept = IsKept-same parts c.reserve.new.self c.self.invariant c.reserve.ensures.same_clauses in
-    subst (λ (ls : List Label). IsKept (record { arena = c.put.new.arena; labels = ls; trail = c.put.new.trail; next = c.self.inside.next })) (sym labels)
-    (IsKept-given room c.put.new.arena c.put.new.trail c.put.result.place c.as_slice.result.now kept c.put.ensures.clause proper c.put.ensures.counted c.put.ensures.only)
+    let kept = IsKept-same parts c.reserve.new.self c.self.invariant.kept c.reserve.ensures.same_clauses in
+    record {
+      kept = subst (λ (ls : List Label). IsKept (record { arena = c.put.new.arena; labels = ls; trail = c.put.new.trail; next = c.self.inside.next })) (sym labels)
+          (IsKept-given room c.put.new.arena c.put.new.trail c.put.result.place c.as_slice.result.now kept c.put.ensures.clause proper c.put.ensures.counted c.put.ensures.only);
+      marks = c.self.invariant.marks ∙ sym (c.put.ensures.clause.variables ∙ c.reserve.ensures.same_clauses.variables);
+    }
 
 pub returns-clause-added : goal.returns-clause-added
 returns-clause-added c =
@@ -42,7 +45,7 @@ returns-clause-added c =
     let label : Label = record { number = None; goes = false } in
     let labels : c.put.new.labels.items ≡ parts.labels ++ label ∷ [] = c.put.ensures.label ∙ ap (λ (ls : List Label). ls ++ label ∷ []) c.reserve-2.ensures.items in
     let new : Parts = record { arena = c.put.new.arena; labels = c.put.new.labels.items; trail = c.put.new.trail; next = c.self.inside.next } in
-    let becomes = Becomes-given_after parts c.reserve.new.self c.put.new.arena c.put.new.trail c.put.result.place literals c.self.invariant c.reserve.ensures.same_clauses c.put.ensures.clause c.put.ensures.only in
+    let becomes = Becomes-given_after parts c.reserve.new.self c.put.new.arena c.put.new.trail c.put.result.place literals c.self.invariant.kept c.reserve.ensures.same_clauses c.put.ensures.clause c.put.ensures.only in
     let now : Becomes parts new (live_in parts ++ record { number = None; literals = literals } ∷ []) parts.next =
     subst (λ (ls : List Label). Becomes parts (record { arena = c.put.new.arena; labels = ls; trail = c.put.new.trail; next = c.self.inside.next })
     (live_in parts ++ record { number = None; literals = literals } ∷ []) parts.next) (sym labels) becomes in (

@@ -6,4 +6,4 @@ use Rattle.cdcl_core.proofs.store.Store.advance.Goals as goal
 pub returns-clause-stops : goal.returns-clause-stops
 returns-clause-stops c =
     let new : Parts = record (parts_of c.self.inside) { trail = c.advance.new.trail } in
-    stops_shown c.args.assume.now new c.advance.result c.self.invariant.parallel c.advance.ensures.stops
+    stops_shown c.args.assume.now new c.advance.result c.self.invariant.kept.parallel c.advance.ensures.stops

@@ -1,4 +1,4 @@
-use Rattle.std.proofs.Common.{subst}
+use Rattle.std.proofs.Common.{sym, subst, ◌∙◌}
 use Rattle.cdcl_core.specs.Store.{Parts}
 use Rattle.cdcl_core.specs.Shown.{parts_of}
 use Rattle.cdcl_core.specs.Changes.{Becomes, live_in}
@@ -8,7 +8,10 @@ use Rattle.cdcl_core.proofs.store.Store.compact.Goals as goal
 pub invariant_of-self : goal.invariant_of-self
 invariant_of-self c =
     let renames = c.compact.ensures.exact in
-    IsKept-renamed renames.0 (parts_of c.self.inside) c.compact.new.self c.self.invariant renames.1
+    record {
+      kept = IsKept-renamed renames.0 (parts_of c.self.inside) c.compact.new.self c.self.invariant.kept renames.1;
+      marks = c.self.invariant.marks ∙ sym renames.1.variables;
+    }
 
 pub returns : goal.returns
 returns c =

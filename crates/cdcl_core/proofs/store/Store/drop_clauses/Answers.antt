@@ -16,9 +16,12 @@ invariant_of-self c =
     let long : length marked ≡ c.self.inside.labels.len = omega (arith, c.drop_where.auto.labels, c.as_mut_slice.ensures.len, c.self.inside.labels.ok.0) in
     let now : c.drop_marked.new.labels.items ≡ filter stays marked = c.drop_marked.ensures ∙ ap (filter stays) (take_at marked _ _ long) in
     let drops = subst (λ (ls : List Label). Drops c.args.which ls c.self.inside.arena.live marked c.drop_where.new.arena.live) c.as_mut_slice.ensures.value c.drop_where.ensures.dropped in
-    subst (λ (ls : List Label). IsKept (record { arena = c.drop_where.new.arena; labels = ls; trail = c.drop_where.new.trail; next = c.self.inside.next })) (sym now)
-    (IsKept-dropped c.args.which parts c.drop_where.new.arena marked c.drop_where.new.trail c.self.invariant drops c.drop_where.ensures.variables c.drop_where.ensures.counted
-    c.drop_where.ensures.proper c.drop_where.ensures.only)
+    record {
+      kept = subst (λ (ls : List Label). IsKept (record { arena = c.drop_where.new.arena; labels = ls; trail = c.drop_where.new.trail; next = c.self.inside.next })) (sym now)
+          (IsKept-dropped c.args.which parts c.drop_where.new.arena marked c.drop_where.new.trail c.self.invariant.kept drops c.drop_where.ensures.variables c.drop_where.ensures.counted
+          c.drop_where.ensures.proper c.drop_where.ensures.only);
+      marks = c.self.invariant.marks ∙ sym c.drop_where.ensures.variables;
+    }
 
 pub returns : goal.returns
 returns c =

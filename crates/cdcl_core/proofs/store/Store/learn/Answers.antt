@@ -14,6 +14,9 @@ use Rattle.cdcl_core.proofs.store.Store.learn.Goals as goal
 pub prepare-requires-clause-conflict : goal.prepare-requires-clause-conflict
 prepare-requires-clause-conflict g c = subst (λ (p : Parts). IsConflict p.trail p.arena c.args.conflict) (sym c.self.view_is) c.requires.conflict
 
+pub prepare-requires-clause-marks : goal.prepare-requires-clause-marks
+prepare-requires-clause-marks g c = c.self.invariant.marks ∙ sym c.self.invariant.kept.same_variables
+
 pub returns-in-Err-clause-failed : goal.returns-in-Err-clause-failed
 returns-in-Err-clause-failed g c =
     let parts = parts_of c.self.inside in
@@ -22,7 +25,7 @@ returns-in-Err-clause-failed g c =
     let new : Parts = record { arena = c.prepare.new.arena; labels = c.prepare.new.labels.items; trail = parts.trail; next = parts.next } in
     let fresh : IsNew (bare parts) parts.trail.focus (record { number = parts.next; clause = literals }) =
     subst (λ (xs : List ℕ). IsNew (bare parts) parts.trail.focus (record { number = parts.next; clause = xs })) (sym c.as_slice.ensures.value)
-    (new_entry parts lesson.literals.items lesson.asserting lesson.back c.self.invariant.parallel
+    (new_entry parts lesson.literals.items lesson.asserting lesson.back c.self.invariant.kept.parallel
     (subst (λ (p : Parts). IsSearching p.trail p.arena) (sym c.self.view_is) c.requires.searching) c.in_ok-lesson.ensures.lesson c.in_ok-lesson.ensures.ascending) in
     let before = g.L.ProofLog.content c.args.log.now in
     let after = g.L.ProofLog.content c.write_learned.new.log in
@@ -48,12 +51,15 @@ invariant_of-self-2 g c =
     let parts = parts_of c.self.inside in
     let lesson = c.in_ok-lesson.lesson in
     let room : Parts = record parts { arena = c.prepare.new.arena; labels = c.prepare.new.labels.items } in
-    let kept = IsKept-room parts c.prepare.new.arena c.prepare.new.labels.items c.self.invariant c.prepare.ensures.same_clauses c.prepare.ensures.same_labels in
+    let kept = IsKept-room parts c.prepare.new.arena c.prepare.new.labels.items c.self.invariant.kept c.prepare.ensures.same_clauses c.prepare.ensures.same_labels in
     let clause = c.commit.ensures.clause in
-    IsKept-learned room c.commit.new.arena c.commit.new.labels.items c.commit.new.trail clause.0 lesson.literals.items kept clause.1
-    (lesson_proper room.arena.variables parts.trail room.arena lesson.literals.items lesson.asserting lesson.back kept.proper
-    (IsLesson-room parts.trail parts.arena room.arena lesson.literals.items lesson.asserting lesson.back c.prepare.ensures.same_clauses c.in_ok-lesson.ensures.lesson))
-    c.commit.ensures.counted c.commit.ensures.variables c.commit.ensures.label
+    record {
+      kept = IsKept-learned room c.commit.new.arena c.commit.new.labels.items c.commit.new.trail clause.0 lesson.literals.items kept clause.1
+          (lesson_proper room.arena.variables parts.trail room.arena lesson.literals.items lesson.asserting lesson.back kept.proper
+          (IsLesson-room parts.trail parts.arena room.arena lesson.literals.items lesson.asserting lesson.back c.prepare.ensures.same_clauses c.in_ok-lesson.ensures.lesson))
+          c.commit.ensures.counted c.commit.ensures.variables c.commit.ensures.label;
+      marks = c.prepare.ensures.marks ∙ (c.self.invariant.marks ∙ sym (clause.1.variables ∙ c.prepare.ensures.same_clauses.variables));
+    }
 
 pub returns-clause-seeks : goal.returns-clause-seeks
 returns-clause-seeks g c assume assumed seeks =
@@ -67,11 +73,11 @@ returns-clause-learned g c =
     let lesson = c.in_ok-lesson.lesson in
     let literals = lesson.literals.items in
     let room : Parts = record parts { arena = c.prepare.new.arena; labels = c.prepare.new.labels.items } in
-    let kept = IsKept-room parts c.prepare.new.arena c.prepare.new.labels.items c.self.invariant c.prepare.ensures.same_clauses c.prepare.ensures.same_labels in
+    let kept = IsKept-room parts c.prepare.new.arena c.prepare.new.labels.items c.self.invariant.kept c.prepare.ensures.same_clauses c.prepare.ensures.same_labels in
     let new : Parts = record { arena = c.commit.new.arena; labels = c.commit.new.labels.items; trail = c.commit.new.trail; next = parts.next + 1 } in
     let entry : Learned = record { number = parts.next; clause = literals } in
     let fresh : IsNew (bare parts) parts.trail.focus entry =
-    new_entry parts literals lesson.asserting lesson.back c.self.invariant.parallel
+    new_entry parts literals lesson.asserting lesson.back c.self.invariant.kept.parallel
     (subst (λ (p : Parts). IsSearching p.trail p.arena) (sym c.self.view_is) c.requires.searching) c.in_ok-lesson.ensures.lesson c.in_ok-lesson.ensures.ascending in
     let clause = c.commit.ensures.clause in
     let before = g.L.ProofLog.content c.args.log.now in

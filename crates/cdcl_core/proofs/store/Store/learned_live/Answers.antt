@@ -12,5 +12,5 @@ returns c =
     let inside = c.self.inside in
     c.learned_count.ensures
     ∙ (ap (λ (ls : List Label). length (numbers_on ls)) c.as_slice.ensures.value
-    ∙ (sym (ap length (numbers_in-labelled inside.labels.items inside.arena.live c.self.invariant.parallel))
+    ∙ (sym (ap length (numbers_in-labelled inside.labels.items inside.arena.live c.self.invariant.kept.parallel))
     ∙ ap (λ (p : Parts). length (numbers_in (live_in p))) c.self.view_is))

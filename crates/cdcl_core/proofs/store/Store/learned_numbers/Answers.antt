@@ -11,6 +11,6 @@ returns-clause-exact c =
     let inside = c.self.inside in
     let same : numbers_on c.as_slice.result.now ≡ numbers_in (live_in c.args.self.now) =
     ap numbers_on c.as_slice.ensures.value
-    ∙ (sym (numbers_in-labelled inside.labels.items inside.arena.live c.self.invariant.parallel)
+    ∙ (sym (numbers_in-labelled inside.labels.items inside.arena.live c.self.invariant.kept.parallel)
     ∙ ap (λ (p : Parts). numbers_in (live_in p)) c.self.view_is) in
     subst (λ (xs : List ℕ). IfOk c.learned_numbers.result (λ numbers. numbers ≡ xs)) same c.learned_numbers.ensures

@@ -1,11 +1,12 @@
 use Rattle.std.proofs.Common.{◌≤◌, length}
-use Rattle.conflict_analysis.specs.Resolving.{IsResolvent}
-use Rattle.conflict_analysis.proofs.analysis.analyse.Given as goal
+use Rattle.conflict_analysis.specs.Marking.{IsCovered, Holds}
+use Rattle.conflict_analysis.proofs.analysis.walk_back.Given as goal
 
 abbrev pub invariant-loop-place : goal.invariant-loop-place
 invariant-loop-place l = record {
   within : l.place ≤ length l.trail.entries;
-  resolvent : IsResolvent l.trail l.arena l.literals.items l.place;
+  covered : IsCovered l.trail.variables l.resolvent;
+  holds : Holds l.trail l.arena l.resolvent l.place;
 }
 
 abbrev pub decreases-loop-place : goal.decreases-loop-place
