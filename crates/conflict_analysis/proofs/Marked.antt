@@ -1,8 +1,8 @@
 -- Marks by literal: what a write of a mark changes, and what marks, touched literals and the count show together.
-use Rattle.std.proofs.Common.{◌≡◌, ◌≢◌, ℕ, ◌<◌, ◌≤◌, ◌+◌, ◌*◌, ◌⊎◌, inl, inr, List, [], ◌∷◌, ◌++◌, length, take, get_or, set, get_or-set_same, get_or-set_other, Contains, All, replicate, Bool, true, false, eqb, not, refl, sym, subst, ap, ◌∙◌, arith}
+use Rattle.std.proofs.Common.{◌≡◌, ◌≢◌, ℕ, ◌<◌, ◌≤◌, ◌+◌, ◌*◌, ◌⊎◌, inl, inr, List, [], ◌∷◌, ◌++◌, length, take, get_or, set, get_or-set_same, get_or-set_other, Contains, All, Bool, true, false, eqb, not, refl, sym, subst, ap, ◌∙◌, arith}
 use Rattle.std.specs.List.{filter}
 use Rattle.std.proofs.lemmas.Bool.{cases_eq, cases_lt, false≢true, eq-eqb, eqb-true}
-use Rattle.std.proofs.lemmas.List.{get_or-replicate, get_or_past, get_or_default, length-replicate, length-set, length_push, take_more}
+use Rattle.std.proofs.lemmas.List.{get_or_past, get_or_default, length-set, length_push, take_more}
 use Rattle.std.proofs.lemmas.List.Elements.{All-push, Contains-append_left, Contains-push, Contains-push_cases, Contains-get_or}
 use Rattle.std.proofs.lemmas.List.Quantifiers.{all_pairs_push}
 use Rattle.std.proofs.lemmas.List.Filters.{length-filter_both}
@@ -42,12 +42,6 @@ HasMark-gone_cases marks l k h m =
 
 HasMark-gone_stays : (marks : List Bool) (l k : ℕ) → k ≢ l → HasMark marks k → HasMark (set marks l false) k
 HasMark-gone_stays marks l k n m = get_or-set_other marks l k false false n ∙ m
-
-pub nothing_marked : (n l : ℕ) → HasMark (replicate n false) l → ⊥
-nothing_marked n l m = elim (cases_lt l n) [
-  | inl h ↦ false≢true (sym (get_or-replicate n l false false h) ∙ m)
-  | inr h ↦ false≢true (sym (get_or_past (replicate n false) l false (omega (arith, length-replicate n false))) ∙ m)
-]
 
 pub literal_below : (variables l : ℕ) → variable_of l < variables → l < 2 * variables
 unfolding variable_of
@@ -129,13 +123,6 @@ one_less xs q once m =
     let both = length-filter_both (λ (x : ℕ). eqb x q) (λ (x : ℕ). not (eqb x q)) (λ x. refl) xs in
     omega (arith, one, both)
 
-pub Shows-none : (trail : State) (r : Resolvent) → ((l : ℕ) → HasMark r.marks.items l → ⊥) → r.newest ≡ 0 → Shows trail r []
-Shows-none trail r none zero_is = record {
-  marked = λ k m. absurd (none k m);
-  has = λ k m. absurd (Contains-nil k m);
-  counted = ([], record { from = λ k m. absurd (Contains-nil k m); all = λ k m at. m; once = λ i j d h p. absurd (omega arith) }, zero_is);
-}
-
 -- a literal is put in
 pub Shows-put : (trail : State) (old new : Resolvent) (literals : List ℕ) (l count : ℕ) → Shows trail old literals → l < length old.marks.items → (HasMark old.marks.items l → ⊥)
     → new.marks.items ≡ set old.marks.items l true
@@ -199,10 +186,7 @@ beside trail r literals q shows member on several =
     other : (i : ℕ) → i < length newest → get_or newest i 0 ≢ q → HasOther trail literals q
     other i p n = (let h = shows.counted.1.from (get_or newest i 0) (Contains-get_or newest i 0 p) in (get_or newest i 0, h.0, n, h.1))
 
--- a literal that isn't put in, and one that is
-pub JoinsIn-kept : (trail : State) (r : Resolvent) (l : ℕ) → ((literals : List ℕ) → Shows trail r literals → Joins trail.entries literals (l ∷ []) literals) → JoinsIn trail r (l ∷ []) r
-JoinsIn-kept trail r l joins literals shows = (literals, shows, joins literals shows)
-
+-- a literal that is put in is joined
 pub JoinsIn-put : (trail : State) (old new : Resolvent) (l count : ℕ) → IsOpen trail.entries l → l < length old.marks.items → (HasMark old.marks.items l → ⊥)
     → new.marks.items ≡ set old.marks.items l true
     → CountsAs trail l count → new.newest ≡ old.newest + count

@@ -125,6 +125,7 @@ fn learn(
 ) -> Result<Lesson, NoMemory>
     requires ready { IsReady trail.old arena.now }
     requires marks { marks.old ≡ 3 }
+    ensures { marks.new ≡ marks.old }
 {
     match try_guess(rt, trail, arena, literal) {
         Some(conflict) => analyse(alloc, trail, arena, conflict, marks),
@@ -160,6 +161,27 @@ fn a_clause_of_two_levels_is_learned(rt: HostRuntime) -> Result<(), Fail> {
     assert!(rt; begin(&mut trail, &arena));
     pass(&rt, &mut trail, &arena, 0);
     let lesson = learn(&rt, rt.alloc(), &mut trail, &arena, 2, &mut marks)?;
+    assert!(rt; lesson.literals.len() == 2);
+    assert!(rt; lesson.literals.contains(&1) && lesson.literals.contains(&3));
+    assert!(rt; lesson.asserting == 3 && lesson.back == 1);
+    Ok(())
+}
+
+/// The same conflict teaches the same with marks that served before.
+#[test]
+fn marks_serve_again(rt: HostRuntime) -> Result<(), Fail> {
+    let mut arena = Arena::new(rt.alloc(), 3)?;
+    put_three(&rt, &mut arena, 1, 3, 4)?;
+    put_three(&rt, &mut arena, 1, 3, 5)?;
+    let mut marks = Marks::new(rt.alloc(), 3)?;
+    let mut first = Trail::new(rt.alloc(), 3)?;
+    assert!(rt; begin(&mut first, &arena));
+    pass(&rt, &mut first, &arena, 0);
+    let _lesson = learn(&rt, rt.alloc(), &mut first, &arena, 2, &mut marks)?;
+    let mut second = Trail::new(rt.alloc(), 3)?;
+    assert!(rt; begin(&mut second, &arena));
+    pass(&rt, &mut second, &arena, 0);
+    let lesson = learn(&rt, rt.alloc(), &mut second, &arena, 2, &mut marks)?;
     assert!(rt; lesson.literals.len() == 2);
     assert!(rt; lesson.literals.contains(&1) && lesson.literals.contains(&3));
     assert!(rt; lesson.asserting == 3 && lesson.back == 1);
