@@ -29,7 +29,7 @@ live_last s e c same =
     let m = Contains-push s.live x in
     (m.0, x, m.1, m.2, sym same)
 
-live_cases : (s : State) (e : Learned) (c : List ℕ) → LiveIn (with_learned s e) c → With (LiveIn s) e.clause c
+pub live_cases : (s : State) (e : Learned) (c : List ℕ) → LiveIn (with_learned s e) c → With (LiveIn s) e.clause c
 live_cases s e c (k, x, p, is, same) =
     let new : LiveClause = record { number = Some e.number; literals = e.clause } in
     elim (Contains-push_cases s.live new x (k, p, is)) [
@@ -69,7 +69,7 @@ with_all-push : (s : State) (entries : List Learned) (e : Learned) → with_all 
 with_all-push s [] e = refl
 with_all-push s (x ∷ xs) e = with_all-push (with_learned s x) xs e
 
-next_after : (s : State) (entries : List Learned) → (with_all s entries).next ≡ s.next + length entries
+pub next_after : (s : State) (entries : List Learned) → (with_all s entries).next ≡ s.next + length entries
 next_after s [] = omega arith
 next_after s (x ∷ xs) = (let rest = next_after (with_learned s x) xs in omega (arith, rest))
 

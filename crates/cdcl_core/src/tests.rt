@@ -1,8 +1,8 @@
-//! Clauses over two variables that are added, dropped and searched, and logs that fail at a call.
+//! Clauses over two and four variables that are added, dropped and searched, and logs that fail at a call.
 
-ghost use Rattle.std.specs.Prelude.{◌≡◌, ◌≢◌, ◌≤◌, [], None, IfOk, OnOk};
+ghost use Rattle.std.specs.Prelude.{◌≡◌, ◌≢◌, ◌<◌, ◌≤◌, ◌+◌, ◌-◌, [], None, IfOk, OnOk};
 ghost use Rattle.clause_meaning.specs.Literals.{AreBelow, HaveDistinctVariables};
-ghost use Rattle.cdcl_core.specs.Trials.{IsFresh};
+ghost use Rattle.cdcl_core.specs.Trials.{IsSmall, IsFresh};
 
 use super::*;
 use clause_meaning::variable_of;
@@ -14,8 +14,8 @@ use std::test::Fail;
 /// Adds a clause of two literals over two variables.
 #[tactic(auto, using(crate::proofs::TestLemmas::distinct_two, crate::proofs::TestLemmas::below_two))]
 fn put(rt: &impl Abort, solver: &mut Solver, a: u32, b: u32) -> Result<(), Fail>
-    requires { IsFresh solver.old }
-    ensures { OnOk result (IsFresh solver.new) }
+    requires { IsFresh 2 solver.old }
+    ensures { OnOk result (IsFresh 2 solver.new) }
 {
     assert!(rt; variable_of(a) < 2);
     assert!(rt; variable_of(b) < 2);
@@ -26,26 +26,26 @@ fn put(rt: &impl Abort, solver: &mut Solver, a: u32, b: u32) -> Result<(), Fail>
 
 /// Adds a clause.
 fn add(solver: &mut Solver, clause: &[u32]) -> Result<(), NoMemory>
-    requires fresh { IsFresh solver.old }
+    requires fresh { IsFresh 2 solver.old }
     requires some { clause.now ≢ [] }
     requires in_range { AreBelow 2 clause.now }
     requires distinct { HaveDistinctVariables clause.now }
 
-    ensures { OnOk result (IsFresh solver.new) }
+    ensures { OnOk result (IsFresh 2 solver.new) }
 {
     solver.add_clause(clause)
 }
 
 /// A solver over two variables.
 fn two(alloc: Global) -> Result<Solver, NoMemory>
-    ensures { IfOk result (λ solver. IsFresh solver) }
+    ensures { IfOk result (λ solver. IsFresh 2 solver) }
 {
     Solver::new(alloc, 2)
 }
 
 /// The four clauses over two variables, which leave no model.
 fn four(rt: &impl Abort, alloc: Global) -> Result<Solver, Fail>
-    ensures { IfOk result (λ solver. IsFresh solver) }
+    ensures { IfOk result (λ solver. IsFresh 2 solver) }
 {
     let mut solver = two(alloc)?;
     put(rt, &mut solver, 0, 2)?;
@@ -62,12 +62,12 @@ fn search_both(
     limit: u64,
     log: &mut MemLog,
 ) -> Result<Outcome, SolveFault>
-    requires fresh { IsFresh solver.old }
+    requires fresh { IsFresh 2 solver.old }
     requires in_range { AreBelow 2 assume.now }
     requires few { limit ≤ 5 }
     requires whole { log.old.torn ≡ None }
 
-    ensures fresh { limit ≡ 0 → IsFresh solver.new }
+    ensures fresh { limit ≡ 0 → IsFresh 2 solver.new }
     ensures whole { OnOk result (log.new.torn ≡ None) }
 {
     let mut budget = Budget { limit, used: 0 };
@@ -82,10 +82,10 @@ fn search_with(
     literal: u32,
     log: &mut MemLog,
 ) -> Result<Outcome, SolveFault>
-    requires fresh { IsFresh solver.old }
+    requires fresh { IsFresh 2 solver.old }
     requires whole { log.old.torn ≡ None }
 
-    ensures fresh { IsFresh solver.new }
+    ensures fresh { IsFresh 2 solver.new }
     ensures whole { OnOk result (log.new.torn ≡ None) }
 {
     assert!(rt; variable_of(literal) < 2);
@@ -166,5 +166,268 @@ fn a_model_is_found(rt: HostRuntime) -> Result<(), Fail> {
         Err(_) => panic!(rt; "a fault"),
     }
     assert!(rt; !solver.value(1));
+    Ok(())
+}
+
+/// The next number of a sequence that looks random (Marsaglia 2003).
+fn next(seed: &mut u64) -> u64 {
+    *seed = *seed ^ (*seed << 13);
+    *seed = *seed ^ (*seed >> 7);
+    *seed = *seed ^ (*seed << 17);
+    *seed
+}
+
+/// A random literal of one of four variables.
+fn some_literal(seed: &mut u64) -> u32
+    ensures { result < 8 }
+{
+    (next(seed) % 8) as u32
+}
+
+/// A solver over four variables.
+fn over_four(alloc: Global) -> Result<Solver, NoMemory>
+    ensures { IfOk result (λ solver. IsFresh 4 solver) }
+{
+    Solver::new(alloc, 4)
+}
+
+/// Adds a clause over four variables.
+fn add_to_four(solver: &mut Solver, clause: &[u32]) -> Result<(), NoMemory>
+    requires fresh { IsFresh 4 solver.old }
+    requires some { clause.now ≢ [] }
+    requires in_range { AreBelow 4 clause.now }
+    requires distinct { HaveDistinctVariables clause.now }
+
+    ensures { OnOk result (IsFresh 4 solver.new) }
+{
+    solver.add_clause(clause)
+}
+
+/// Adds a clause of three literals over four variables.
+#[tactic(auto, using(crate::proofs::TestLemmas::distinct_three, crate::proofs::TestLemmas::below_three))]
+fn put_three(rt: &impl Abort, solver: &mut Solver, a: u32, b: u32, c: u32) -> Result<(), Fail>
+    requires { IsFresh 4 solver.old }
+    ensures { OnOk result (IsFresh 4 solver.new) }
+{
+    assert!(rt; variable_of(a) < 4);
+    assert!(rt; variable_of(b) < 4);
+    assert!(rt; variable_of(c) < 4);
+    assert!(rt; variable_of(a) != variable_of(b));
+    assert!(rt; variable_of(a) != variable_of(c));
+    assert!(rt; variable_of(b) != variable_of(c));
+    add_to_four(solver, &[a, b, c])?;
+    Ok(())
+}
+
+/// Adds a clause of two literals over four variables.
+#[tactic(auto, using(crate::proofs::TestLemmas::distinct_two, crate::proofs::TestLemmas::below_two))]
+fn put_pair(rt: &impl Abort, solver: &mut Solver, a: u32, b: u32) -> Result<(), Fail>
+    requires { IsFresh 4 solver.old }
+    ensures { OnOk result (IsFresh 4 solver.new) }
+{
+    assert!(rt; variable_of(a) < 4);
+    assert!(rt; variable_of(b) < 4);
+    assert!(rt; variable_of(a) != variable_of(b));
+    add_to_four(solver, &[a, b])?;
+    Ok(())
+}
+
+/// Searches over the four variables.
+fn search_four(
+    solver: &mut Solver,
+    assume: &[u32],
+    budget: &mut Budget,
+    log: &mut MemLog,
+) -> Result<Outcome, SolveFault>
+    requires small { IsSmall 4 solver.old }
+    requires in_range { AreBelow 4 assume.now }
+    requires few { solver.old.next ≤ 100 }
+    requires within { budget.old.used ≤ budget.old.limit }
+    requires limit { budget.old.limit ≤ 100 }
+    requires whole { log.old.torn ≡ None }
+
+    ensures small { IsSmall 4 solver.new }
+    ensures learned { solver.new.next ≤ solver.old.next + (budget.old.limit - budget.old.used) }
+    ensures limit { budget.new.limit ≡ budget.old.limit }
+    ensures within { budget.new.used ≤ budget.new.limit }
+    ensures whole { OnOk result (log.new.torn ≡ None) }
+{
+    solver.solve(&[0, 1, 2, 3], assume, budget, log)
+}
+
+/// Whether the assignment, a bit for each variable, makes the literal true.
+fn is_true(assignment: u32, literal: u32) -> bool
+    requires { literal < 8 }
+{
+    ((assignment >> (literal / 2)) & 1 == 1) == (literal % 2 == 0)
+}
+
+/// Whether the assignment makes some of the literals true.
+fn satisfies(assignment: u32, clause: &[u32]) -> bool {
+    clause
+        .iter()
+        .any(|literal| *literal < 8 && is_true(assignment, *literal))
+}
+
+/// Whether the assignment satisfies all clauses.
+fn satisfies_all(assignment: u32, clauses: &[Vec<u32>]) -> bool {
+    for clause in clauses {
+        if !satisfies(assignment, clause) {
+            return false;
+        }
+    }
+    true
+}
+
+/// Whether one of the sixteen assignments satisfies all clauses.
+fn can_be_satisfied(clauses: &[Vec<u32>]) -> bool {
+    for assignment in 0..16 {
+        if satisfies_all(assignment, clauses) {
+            return true;
+        }
+    }
+    false
+}
+
+/// The values that the solver tells, a bit for each variable.
+fn values(solver: &Solver) -> u32 {
+    let mut assignment = 0;
+    for variable in 0..4 {
+        if solver.value(variable) {
+            assignment = assignment | (1 << variable);
+        }
+    }
+    assignment
+}
+
+/// Adds a random clause of two or three literals, unless two of them are of one variable.
+fn put_some(
+    rt: &impl Abort,
+    alloc: Global,
+    solver: &mut Solver,
+    clauses: &mut Vec<Vec<u32>>,
+    seed: &mut u64,
+) -> Result<(), Fail>
+    requires { IsFresh 4 solver.old }
+    ensures { OnOk result (IsFresh 4 solver.new) }
+{
+    let a = some_literal(seed);
+    let b = some_literal(seed);
+    let c = some_literal(seed);
+    if a / 2 == b / 2 {
+        return Ok(());
+    }
+    if a / 2 == c / 2 || b / 2 == c / 2 {
+        put_pair(rt, solver, a, b)?;
+        clauses.push(Vec::from_slice(alloc, &[a, b])?)?;
+        return Ok(());
+    }
+    put_three(rt, solver, a, b, c)?;
+    clauses.push(Vec::from_slice(alloc, &[a, b, c])?)?;
+    Ok(())
+}
+
+/// Searches with an assumption, and looks at all assignments.
+#[tactic(auto, using(crate::proofs::TestLemmas::below_one))]
+fn compare(
+    rt: &impl Abort,
+    alloc: Global,
+    solver: &mut Solver,
+    clauses: &mut Vec<Vec<u32>>,
+    literal: u32,
+) -> Result<(), Fail>
+    requires { IsFresh 4 solver.old }
+{
+    assert!(rt; variable_of(literal) < 4);
+    let mut budget = Budget {
+        limit: 100,
+        used: 0,
+    };
+    let mut log = MemLog::new(alloc, None);
+    let outcome = search_four(solver, &[literal], &mut budget, &mut log);
+    clauses.push(Vec::from_slice(alloc, &[literal])?)?;
+    if can_be_satisfied(clauses) {
+        assert!(rt; outcome == Ok(Outcome::Model));
+        assert!(rt; satisfies_all(values(solver), clauses));
+    } else {
+        assert!(rt; outcome == Ok(Outcome::Refuted));
+    }
+    Ok(())
+}
+
+/// Some random clauses over four variables, and a search among them.
+fn search_some(rt: &impl Abort, alloc: Global, seed: &mut u64) -> Result<(), Fail> {
+    let mut solver = over_four(alloc)?;
+    let mut clauses = Vec::new(alloc);
+    for _ in 0..16 {
+        put_some(rt, alloc, &mut solver, &mut clauses, seed)?;
+    }
+    compare(rt, alloc, &mut solver, &mut clauses, some_literal(seed))
+}
+
+/// A search ends as a look at all assignments does.
+#[test]
+fn outcomes_are_those_by_all_assignments(rt: HostRuntime) -> Result<(), Fail> {
+    let mut seed = 88172645463325252;
+    for _ in 0..200 {
+        search_some(&rt, rt.alloc(), &mut seed)?;
+    }
+    Ok(())
+}
+
+/// The eight clauses over three variables. A search learns three clauses from them: after two guesses one of two literals, and
+/// then two units, each after one guess.
+fn eight(rt: &impl Abort, alloc: Global) -> Result<Solver, Fail>
+    ensures { IfOk result (λ solver. IsFresh 4 solver) }
+{
+    let mut solver = over_four(alloc)?;
+    for i in 0..8 {
+        put_three(rt, &mut solver, i & 1, 2 + (i >> 1 & 1), 4 + (i >> 2 & 1))?;
+    }
+    Ok(solver)
+}
+
+/// A search that used up its budget goes on with more.
+#[test]
+fn a_spent_search_goes_on(rt: HostRuntime) -> Result<(), Fail> {
+    let mut solver = eight(&rt, rt.alloc())?;
+    let mut log = MemLog::new(rt.alloc(), None);
+    let mut budget = Budget { limit: 1, used: 0 };
+    match search_four(&mut solver, &[], &mut budget, &mut log) {
+        Ok(outcome) => assert!(rt; outcome == Outcome::Spent),
+        Err(_) => panic!(rt; "a fault"),
+    }
+    assert!(rt; budget.used == 1 && solver.learned_live() == 1);
+    budget.limit = 50;
+    assert!(rt; search_four(&mut solver, &[], &mut budget, &mut log) == Ok(Outcome::Refuted));
+    assert!(rt; budget.used == 3 && log.clauses().len() == 3);
+    assert!(rt; solver.learned_numbers()?.as_slice() == [0, 1, 2].as_slice());
+    Ok(())
+}
+
+/// Searches among the eight clauses with a log that fails at a call of that number.
+fn search_failing(rt: &impl Abort, alloc: Global, call: u64) -> Result<(), Fail> {
+    let mut solver = eight(rt, alloc)?;
+    let mut log = MemLog::new(alloc, Some(call));
+    let mut budget = Budget { limit: 50, used: 0 };
+    let outcome = search_four(&mut solver, &[], &mut budget, &mut log);
+    if call < 3 {
+        assert!(rt; outcome == Err(SolveFault::Log));
+    } else {
+        assert!(rt; outcome == Ok(Outcome::Refuted));
+    }
+    assert_eq!(rt; solver.learned_live(), call.min(3));
+    assert_eq!(rt; solver.learned_numbers()?.len() as u64, call.min(3));
+    assert_eq!(rt; log.clauses().len() as u64, call.min(3));
+    assert_eq!(rt; budget.used, call.min(3));
+    Ok(())
+}
+
+/// The live learned clauses are those that the log took, at whichever call it fails.
+#[test]
+fn each_call_of_the_log_fails_in_turn(rt: HostRuntime) -> Result<(), Fail> {
+    for call in 0..5 {
+        search_failing(&rt, rt.alloc(), call)?;
+    }
     Ok(())
 }
