@@ -4,7 +4,7 @@ use Rattle.std.proofs.lemmas.List.Elements.{All-cons, All-nil, All-contains, Con
 use Rattle.std.proofs.lemmas.List.Kept.{AllPairs-cons}
 use Rattle.clause_meaning.specs.Literals.{variable_of, HaveDistinctVariables, AreBelow}
 use Rattle.clause_meaning.specs.Assignments.{IsInside}
-use Rattle.conflict_analysis.specs.Learning.{is_in}
+use Rattle.clause_meaning.specs.Learning.{is_in}
 use Rattle.cdcl_core.specs.declared.outcome.Budget.{Budget}
 use Rattle.cdcl_core.specs.State.{State}
 use Rattle.cdcl_core.specs.Logs.{Learned}
