@@ -1,16 +1,18 @@
 -- Clauses of two and three literals in the tests, and what stays after a search.
-use Rattle.std.proofs.Common.{◌≡◌, ◌≢◌, ◌<◌, ◌+◌, ℕ, List, [], ◌∷◌, inl, inr, All, get_or, sym, subst, ap, ◌∙◌, arith}
-use Rattle.std.proofs.lemmas.List.Elements.{All-cons, All-nil, All-contains, Contains-get_or}
+use Rattle.std.proofs.Common.{◌≡◌, ◌≢◌, ◌<◌, ◌+◌, ℕ, zero, suc, ◌≤◌, ◌⊎◌, List, [], ◌∷◌, inl, inr, All, Contains, None, Bool, true, false, get_or, refl, sym, subst, ap, ◌∙◌, arith}
+use Rattle.std.proofs.lemmas.List.Elements.{All-cons, All-nil, All-contains, Contains-get_or, Contains-push_cases}
+use Rattle.std.proofs.lemmas.List.Sorted.{IsPermutation-sym, Contains-permutation}
 use Rattle.std.proofs.lemmas.List.Kept.{AllPairs-cons}
 use Rattle.clause_meaning.specs.Literals.{variable_of, HaveDistinctVariables, AreBelow}
 use Rattle.clause_meaning.specs.Assignments.{IsInside}
-use Rattle.clause_meaning.specs.Learning.{is_in}
+use Rattle.clause_meaning.specs.Learning.{is_in, IsOneSided}
+use Rattle.clause_meaning.proofs.Members.{Contains-cons_cases, Contains-nil}
 use Rattle.cdcl_core.specs.declared.outcome.Budget.{Budget}
-use Rattle.cdcl_core.specs.State.{State}
+use Rattle.cdcl_core.specs.State.{State, LiveClause, LiveIn, AscendsAs, AddsClause, with_given}
 use Rattle.cdcl_core.specs.Logs.{Learned}
 use Rattle.cdcl_core.specs.Learning.{AreLearned, with_learned, with_all}
 use Rattle.cdcl_core.specs.Solving.{Learns, cleared}
-use Rattle.cdcl_core.specs.Trials.{IsSmall}
+use Rattle.cdcl_core.specs.Trials.{IsSmall, IsParted}
 use Rattle.cdcl_core.proofs.Seeks.{contains_in}
 use Rattle.cdcl_core.proofs.Runs.{live_cases, next_after}
 
@@ -50,7 +52,7 @@ small_all n s scope assume (e ∷ es) small kept learned =
       variables = kept.variables;
       below = λ c live. elim (live_cases s e c live) [
         | inl m ↦ kept.below c m
-        | inr is ↦ subst (AreBelow n) (sym is) (inside_below n scope e.clause small learned.0.fresh.in_scope)
+        | inr is ↦ subst (AreBelow n) (sym is) (inside_below n scope e.clause small learned.0.fresh.lesson.inside)
       ];
     })
     learned.1
@@ -73,3 +75,49 @@ pub four_small : All (λ (v : ℕ). v < 4) (0 ∷ 1 ∷ 2 ∷ 3 ∷ [])
 four_small =
     let Small : ℕ → Type 0 = λ v. v < 4 in
     All-cons Small 0 (1 ∷ 2 ∷ 3 ∷ []) (omega arith) (All-cons Small 1 (2 ∷ 3 ∷ []) (omega arith) (All-cons Small 2 (3 ∷ []) (omega arith) (All-cons Small 3 [] (omega arith) (All-nil Small))))
+
+-- ---- a border
+
+in_first : (v : ℕ) → v < 2 → is_in (0 ∷ 1 ∷ []) v ≡ true
+in_first zero below = refl
+in_first (suc zero) below = refl
+in_first (suc (suc v)) below = absurd (omega arith)
+
+-- what holds of two literals holds of each of their list
+each_of_two : (P : ℕ → Type 0) (k l : ℕ) → P k → P l → (x : ℕ) → Contains (k ∷ l ∷ []) x → P x
+each_of_two P k l p q x m = elim (Contains-cons_cases k (l ∷ []) x m) [
+  | inl e ↦ subst P e p
+  | inr n ↦ elim (Contains-cons_cases l [] x n) [ inl e ↦ subst P e q | inr none ↦ absurd (Contains-nil x none) ]
+]
+
+not_in_first : (v : ℕ) → 2 ≤ v → is_in (0 ∷ 1 ∷ []) v ≡ false
+not_in_first v above = go (is_in (0 ∷ 1 ∷ []) v) refl
+  where
+    go : (b : Bool) → is_in (0 ∷ 1 ∷ []) v ≡ b → b ≡ false
+    go false e = refl
+    go true e = absurd (let below : v < 2 = each_of_two (λ x. x < 2) 0 1 (omega arith) (omega arith) v (contains_in (0 ∷ 1 ∷ []) v e) in omega (arith, below, above))
+
+pub first_sided : (k l : ℕ) → variable_of k < 2 → variable_of l < 2 → IsOneSided (is_in (0 ∷ 1 ∷ [])) (k ∷ l ∷ [])
+first_sided k l p q = inl (each_of_two (λ x. is_in (0 ∷ 1 ∷ []) (variable_of x) ≡ true) k l (in_first (variable_of k) p) (in_first (variable_of l) q))
+
+pub last_sided : (k l : ℕ) → 2 ≤ variable_of k → 2 ≤ variable_of l → IsOneSided (is_in (0 ∷ 1 ∷ [])) (k ∷ l ∷ [])
+last_sided k l p q = inr (each_of_two (λ x. is_in (0 ∷ 1 ∷ []) (variable_of x) ≡ false) k l (not_in_first (variable_of k) p) (not_in_first (variable_of l) q))
+
+-- a clause on one side is there in any order
+sided_ascending : (clause shown : List ℕ) → AscendsAs clause shown → IsOneSided (is_in (0 ∷ 1 ∷ [])) clause → IsOneSided (is_in (0 ∷ 1 ∷ [])) shown
+sided_ascending clause shown up (inl inside) = inl (λ l m. inside l (Contains-permutation shown clause l (IsPermutation-sym clause shown up.permutation) m))
+sided_ascending clause shown up (inr outside) = inr (λ l m. outside l (Contains-permutation shown clause l (IsPermutation-sym clause shown up.permutation) m))
+
+-- one more clause on one side
+pub parted_more : (old new : State) (clause : List ℕ) → IsParted old → AddsClause old new clause → IsOneSided (is_in (0 ∷ 1 ∷ [])) clause → IsParted new
+parted_more old new clause parted (shown, up, is) side = subst IsParted (sym is) (record {
+  variables = parted.variables;
+  separates = λ c (k, x, p, same, e). elim (Contains-push_cases old.live entry x (k, p, same)) [
+    | inl m ↦ parted.separates c (m.0, x, m.1, m.2, e)
+    | inr d ↦ subst (IsOneSided (is_in (0 ∷ 1 ∷ []))) (ap (λ (y : LiveClause). y.literals) d ∙ e) (sided_ascending clause shown up side)
+  ];
+  next = parted.next;
+})
+  where
+    entry : LiveClause
+    entry = record { number = None; literals = shown }

@@ -1,8 +1,9 @@
 //! Clauses over two and four variables that are added, dropped and searched, and logs that fail at a call.
 
-ghost use Rattle.std.specs.Prelude.{◌≡◌, ◌≢◌, ◌<◌, ◌≤◌, ◌+◌, ◌-◌, [], None, IfOk, OnOk};
+ghost use Rattle.std.specs.Prelude.{◌≡◌, ◌≢◌, ◌<◌, ◌≤◌, ◌+◌, ◌-◌, [], ◌∷◌, None, IfOk, OnOk};
 ghost use Rattle.clause_meaning.specs.Literals.{AreBelow, HaveDistinctVariables};
-ghost use Rattle.cdcl_core.specs.Trials.{IsSmall, IsFresh};
+ghost use Rattle.clause_meaning.specs.Learning.{is_in, IsOneSided};
+ghost use Rattle.cdcl_core.specs.Trials.{IsSmall, IsFresh, IsParted};
 
 use super::*;
 use clause_meaning::variable_of;
@@ -429,5 +430,73 @@ fn each_call_of_the_log_fails_in_turn(rt: HostRuntime) -> Result<(), Fail> {
     for call in 0..5 {
         search_failing(&rt, rt.alloc(), call)?;
     }
+    Ok(())
+}
+
+/// Adds a clause that is on one side of the border behind the first two of four variables.
+fn add_parted(solver: &mut Solver, clause: &[u32]) -> Result<(), NoMemory>
+    requires parted { IsParted solver.old }
+    requires some { clause.now ≢ [] }
+    requires in_range { AreBelow 4 clause.now }
+    requires distinct { HaveDistinctVariables clause.now }
+    requires side { IsOneSided (is_in (0 ∷ 1 ∷ [])) clause.now }
+
+    ensures { OnOk result (IsParted solver.new) }
+{
+    solver.add_clause(clause)
+}
+
+/// Adds a clause of two literals over the first two of four variables.
+#[tactic(auto, using(crate::proofs::TestLemmas::distinct_two, crate::proofs::TestLemmas::below_two, crate::proofs::TestLemmas::first_sided))]
+fn put_first(rt: &impl Abort, solver: &mut Solver, a: u32, b: u32) -> Result<(), Fail>
+    requires { IsParted solver.old }
+    ensures { OnOk result (IsParted solver.new) }
+{
+    assert!(rt; variable_of(a) < 2);
+    assert!(rt; variable_of(b) < 2);
+    assert!(rt; variable_of(a) != variable_of(b));
+    add_parted(solver, &[a, b])?;
+    Ok(())
+}
+
+/// Adds a clause of two literals over the other two.
+#[tactic(auto, using(crate::proofs::TestLemmas::distinct_two, crate::proofs::TestLemmas::below_two, crate::proofs::TestLemmas::last_sided))]
+fn put_last(rt: &impl Abort, solver: &mut Solver, a: u32, b: u32) -> Result<(), Fail>
+    requires { IsParted solver.old }
+    ensures { OnOk result (IsParted solver.new) }
+{
+    assert!(rt; variable_of(a) < 4);
+    assert!(rt; variable_of(b) < 4);
+    assert!(rt; variable_of(a) >= 2);
+    assert!(rt; variable_of(b) >= 2);
+    assert!(rt; variable_of(a) != variable_of(b));
+    add_parted(solver, &[a, b])?;
+    Ok(())
+}
+
+/// Searches over the first two variables.
+fn search_first(solver: &mut Solver, log: &mut MemLog) -> Result<Outcome, SolveFault>
+    requires parted { IsParted solver.old }
+    requires whole { log.old.torn ≡ None }
+{
+    let mut budget = Budget { limit: 5, used: 0 };
+    solver.solve(&[0, 1], &[], &mut budget, log)
+}
+
+/// The clauses over the first two variables have a model in which variable 1 is present, though those over the other two have none, and so
+/// nothing is said of these.
+#[test]
+fn a_scope_stands_beside_other_clauses(rt: HostRuntime) -> Result<(), Fail> {
+    let mut solver = Solver::new(rt.alloc(), 4)?;
+    put_first(&rt, &mut solver, 0, 2)?;
+    put_first(&rt, &mut solver, 1, 2)?;
+    put_last(&rt, &mut solver, 4, 6)?;
+    put_last(&rt, &mut solver, 4, 7)?;
+    put_last(&rt, &mut solver, 5, 6)?;
+    put_last(&rt, &mut solver, 5, 7)?;
+    let mut log = MemLog::new(rt.alloc(), None);
+    assert!(rt; search_first(&mut solver, &mut log) == Ok(Outcome::Model));
+    assert!(rt; solver.value(1) && !solver.value(2) && !solver.value(3));
+    assert!(rt; log.clauses().is_empty());
     Ok(())
 }
