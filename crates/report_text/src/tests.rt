@@ -2,11 +2,13 @@
 
 use crate::made_lines::{Dice, made_line};
 use crate::reading::{read_at_once, read_by_value};
-use crate::{Line, LineFault, LineSink, Origin, ReadRefusal, Report, Verdict, print, read};
+use crate::{Line, LineFault, LineSink, Origin, ReadRefusal, Report, print, read};
 use cq_io::MemSink;
 use cq_steps::Move;
-use cq_terms::{QAtom, Term};
+use cq_terms::{NoMemory, QAtom, Term};
 use serde_json::Value;
+use std::alloc::{AllocError, Global};
+use std::process::Abort;
 use std::test::Fail;
 
 // A tuple that is brave and neither AR nor IAR, with the evidence.
@@ -30,23 +32,20 @@ const REPORT: &str =
 
 const END: &str = r#"{"answers":1,"ar":0,"brave":1,"iar":0,"k":"end","undecided":0}"#;
 
-// Names, and what RFC 8259 has between the quotes: the escapes that are needed, the first and the last characters of each length in
-// UTF-8, and one of each plane.
-const NAMES: [(&str, &str); 7] = [
-    ("", ""),
-    (
-        "\"q\\\u{8}\u{c}\n\r\t\u{1}/é漢𝄞",
-        r#"\"q\\\b\f\n\r\t\u0001/é漢𝄞"#,
-    ),
-    ("\u{0}\u{b}\u{1f} ", r"\u0000\u000b\u001f "),
-    ("\u{7f}\u{80}\u{7ff}\u{800}", "\u{7f}\u{80}\u{7ff}\u{800}"),
-    ("\u{2028}\u{2029}", "\u{2028}\u{2029}"),
-    ("\u{d7ff}\u{e000}\u{ffff}", "\u{d7ff}\u{e000}\u{ffff}"),
-    (
-        "\u{10000}\u{20000}\u{30000}\u{40000}\u{50000}\u{60000}\u{70000}\u{80000}\u{90000}\u{a0000}\u{b0000}\u{c0000}\u{d0000}\u{e0000}\u{f0000}\u{10ffff}",
-        "\u{10000}\u{20000}\u{30000}\u{40000}\u{50000}\u{60000}\u{70000}\u{80000}\u{90000}\u{a0000}\u{b0000}\u{c0000}\u{d0000}\u{e0000}\u{f0000}\u{10ffff}",
-    ),
+// Names that stand for themselves between the quotes: the empty one, the first and the last characters of each length in UTF-8, and one of
+// each plane.
+const PLAIN_NAMES: [&str; 5] = [
+    "",
+    "\u{7f}\u{80}\u{7ff}\u{800}",
+    "\u{2028}\u{2029}",
+    "\u{d7ff}\u{e000}\u{ffff}",
+    "\u{10000}\u{20000}\u{30000}\u{40000}\u{50000}\u{60000}\u{70000}\u{80000}\u{90000}\u{a0000}\u{b0000}\u{c0000}\u{d0000}\u{e0000}\u{f0000}\u{10ffff}",
 ];
+
+// A name that needs each escape of RFC 8259, and what stands between the quotes.
+const ODD_NAME: &str = "\"q\\\u{8}\u{c}\n\r\t\u{1}/é漢𝄞";
+
+const ODD_NAME_ESCAPED: &str = r#"\"q\\\b\f\n\r\t\u0001/é漢𝄞"#;
 
 // What a byte of a line is changed to: of the bytes that lines have, and some that they don't.
 const OTHER_BYTES: &[u8] = b"\"\\,:[]{}0123456789aceknu -.\n\x00\x7f\x80\xff";
@@ -70,77 +69,39 @@ fn a_report_goes_to_the_sink_line_by_line(rt: HostRuntime) -> Result<(), Fail> {
 #[test]
 fn further_lines_come_back(rt: HostRuntime) -> Result<(), Fail> {
     let alloc = rt.alloc();
-    // With whether no JSON value is needed to read the line.
-    for (text, at_once) in [
-        (
-            r#"{"axioms":2,"budget":0,"facts":2,"k":"head","keep":0,"repairs":"all","version":0}"#,
-            false,
-        ),
-        (
-            r#"{"axioms":4294967295,"budget":18446744073709551615,"facts":4294967295,"k":"head","keep":18446744073709551615,"repairs":"all","version":1}"#,
-            false,
-        ),
+    // A head, a query and an end are read as JSON values.
+    for text in [
+        r#"{"axioms":2,"budget":0,"facts":2,"k":"head","keep":0,"repairs":"all","version":0}"#,
+        r#"{"axioms":4294967295,"budget":18446744073709551615,"facts":4294967295,"k":"head","keep":18446744073709551615,"repairs":"all","version":1}"#,
         // A role, an individual and `_`; and two atoms made one.
-        (
-            r#"{"body":[["c",1,[7]],["r",0,0,null]],"head":[0,[7]],"k":"cq","move":["reduce",1,2],"of":4294967295,"parent":3}"#,
-            false,
-        ),
-        (
-            r#"{"body":[["r",4294967295,4294967295,[4294967295]]],"head":[4294967295],"k":"cq","move":["axiom",4294967295,4294967295],"of":"query","parent":4294967295}"#,
-            false,
-        ),
-        (r#"{"facts":[5],"k":"conflict","member":0,"of":1}"#, true),
-        (
-            r#"{"facts":[0,4294967295],"k":"conflict","member":4294967295,"of":4294967295}"#,
-            true,
-        ),
-        (
-            r#"{"candidate":1,"causes":[],"k":"ask","members":[],"tuple":[]}"#,
-            true,
-        ),
-        (
-            r#"{"candidate":4294967295,"causes":[[],[4294967295,0]],"k":"ask","members":[0,4294967295],"tuple":[4294967295]}"#,
-            true,
-        ),
-        (r#"{"assume":[9],"k":"try","q":"ar"}"#, true),
-        (r#"{"assume":[],"k":"try","q":"iar"}"#, true),
-        (r#"{"assume":[4294967295],"k":"try","q":"brave"}"#, true),
-        (
-            r#"{"clause":[3,4294967295],"k":"learn","n":18446744073709551615}"#,
-            true,
-        ),
-        (
-            r#"{"dropped":[],"k":"core","kept":[4294967295],"n":18446744073709551615}"#,
-            true,
-        ),
-        (
-            r#"{"core":18446744073709551615,"how":"model","k":"done"}"#,
-            true,
-        ),
-        (r#"{"core":null,"how":"refuted","k":"done"}"#, true),
-        (r#"{"core":null,"how":"spent","k":"done"}"#, true),
-        (r#"{"clauses":[],"k":"forget"}"#, true),
-        (r#"{"clauses":[0,18446744073709551615],"k":"forget"}"#, true),
-        (
-            r#"{"ar":"undecided","brave":"yes","cores":[],"iar":"no","k":"answer","names":[],"tuple":[]}"#,
-            true,
-        ),
-        (
-            r#"{"ar":"yes","brave":"yes","cores":[18446744073709551615],"iar":"undecided","k":"answer","names":["",""],"tuple":[4294967295,0]}"#,
-            true,
-        ),
-        (
-            r#"{"answers":18446744073709551615,"ar":18446744073709551615,"brave":18446744073709551615,"iar":18446744073709551615,"k":"end","undecided":18446744073709551615}"#,
-            false,
-        ),
+        r#"{"body":[["c",1,[7]],["r",0,0,null]],"head":[0,[7]],"k":"cq","move":["reduce",1,2],"of":4294967295,"parent":3}"#,
+        r#"{"body":[["r",4294967295,4294967295,[4294967295]]],"head":[4294967295],"k":"cq","move":["axiom",4294967295,4294967295],"of":"query","parent":4294967295}"#,
+        r#"{"answers":18446744073709551615,"ar":18446744073709551615,"brave":18446744073709551615,"iar":18446744073709551615,"k":"end","undecided":18446744073709551615}"#,
     ] {
-        let bytes = text.as_bytes();
-        let printed = print(alloc, &read(alloc, bytes)?)?;
-        assert_eq!(rt; printed.as_str(), text);
-        let printed = print(alloc, &read_by_value(alloc, bytes)?)?;
-        assert_eq!(rt; printed.as_str(), text);
-        let found = read_at_once(alloc, bytes)?.is_some();
-        assert_eq!(rt; found, at_once, "of {text}");
+        comes_back(&rt, alloc, text)?;
+        assert!(rt; !is_found_at_once(alloc, text)?, "of {text}");
+    }
+    // All other lines need none.
+    for text in [
+        r#"{"facts":[5],"k":"conflict","member":0,"of":1}"#,
+        r#"{"facts":[0,4294967295],"k":"conflict","member":4294967295,"of":4294967295}"#,
+        r#"{"candidate":1,"causes":[],"k":"ask","members":[],"tuple":[]}"#,
+        r#"{"candidate":4294967295,"causes":[[],[4294967295,0]],"k":"ask","members":[0,4294967295],"tuple":[4294967295]}"#,
+        r#"{"assume":[9],"k":"try","q":"ar"}"#,
+        r#"{"assume":[],"k":"try","q":"iar"}"#,
+        r#"{"assume":[4294967295],"k":"try","q":"brave"}"#,
+        r#"{"clause":[3,4294967295],"k":"learn","n":18446744073709551615}"#,
+        r#"{"dropped":[],"k":"core","kept":[4294967295],"n":18446744073709551615}"#,
+        r#"{"core":18446744073709551615,"how":"model","k":"done"}"#,
+        r#"{"core":null,"how":"refuted","k":"done"}"#,
+        r#"{"core":null,"how":"spent","k":"done"}"#,
+        r#"{"clauses":[],"k":"forget"}"#,
+        r#"{"clauses":[0,18446744073709551615],"k":"forget"}"#,
+        r#"{"ar":"undecided","brave":"yes","cores":[],"iar":"no","k":"answer","names":[],"tuple":[]}"#,
+        r#"{"ar":"yes","brave":"yes","cores":[18446744073709551615],"iar":"undecided","k":"answer","names":["",""],"tuple":[4294967295,0]}"#,
+    ] {
+        comes_back(&rt, alloc, text)?;
+        assert!(rt; is_found_at_once(alloc, text)?, "of {text}");
     }
     Ok(())
 }
@@ -176,31 +137,20 @@ fn a_query_is_read_from_its_line(rt: HostRuntime) -> Result<(), Fail> {
 #[test]
 fn names_come_back(rt: HostRuntime) -> Result<(), Fail> {
     let alloc = rt.alloc();
-    for (name, escaped) in NAMES {
-        let text = format!(in alloc;
-            r#"{{"ar":"no","brave":"yes","cores":[3],"iar":"no","k":"answer","names":["{escaped}"],"tuple":[5]}}"#
-        )?;
-        let bytes = text.as_bytes();
-        // The text of a name without an escape needs no JSON value.
-        let found = read_at_once(alloc, bytes)?.is_some();
-        assert_eq!(rt; found, name == escaped, "of {text}");
-        let printed = print(alloc, &read_by_value(alloc, bytes)?)?;
-        assert_eq!(rt; printed.as_str(), text.as_str());
-        let printed = print(alloc, &read(alloc, bytes)?)?;
-        assert_eq!(rt; printed.as_str(), text.as_str());
-        let Line::Answer {
-            brave,
-            iar,
-            names,
-            ..
-        } = read(alloc, printed.as_bytes())?
-        else {
-            return Err(Fail::from("another kind"));
-        };
-        assert_eq!(rt; (brave, iar), (Verdict::Yes, Verdict::No));
-        assert_eq!(rt; names.len(), 1);
-        assert_eq!(rt; names.as_slice()[0].as_str(), name);
+    for name in PLAIN_NAMES {
+        name_comes_back(&rt, alloc, name, name)?;
     }
+    name_comes_back(&rt, alloc, ODD_NAME, ODD_NAME_ESCAPED)?;
+    name_comes_back(&rt, alloc, "\u{0}\u{b}\u{1f} ", r"\u0000\u000b\u001f ")?;
+    Ok(())
+}
+
+/// The answer with a name comes back, and tells the name. Where the name has no escape, its text needs no JSON value.
+fn name_comes_back(rt: &impl Abort, alloc: Global, name: &str, escaped: &str) -> Result<(), Fail> {
+    let text = answer_text(alloc, escaped)?;
+    comes_back(rt, alloc, text.as_str())?;
+    assert_eq!(rt; is_found_at_once(alloc, text.as_str())?, name == escaped);
+    assert_eq!(rt; name_told(alloc, text.as_str())?.as_str(), name);
     Ok(())
 }
 
@@ -210,13 +160,11 @@ fn lines_made_by_chance_come_back(rt: HostRuntime) -> Result<(), Fail> {
     let mut dice = Dice::new(0x2545_f491_4f6c_dd1d);
     for _ in 0..1000 {
         let text = made_line(alloc, &mut dice)?;
-        let bytes = text.as_bytes();
-        let value = Value::from_slice(alloc, bytes)?.to_string(alloc)?;
-        assert_eq!(rt; value.as_str(), text.as_str());
-        let printed = print(alloc, &read(alloc, bytes)?)?;
-        assert_eq!(rt; printed.as_str(), text.as_str());
-        let printed = print(alloc, &read_by_value(alloc, bytes)?)?;
-        assert_eq!(rt; printed.as_str(), text.as_str());
+        assert_eq!(rt;
+            printed_value(alloc, text.as_str())?.as_str(),
+            text.as_str()
+        );
+        comes_back(&rt, alloc, text.as_str())?;
     }
     Ok(())
 }
@@ -232,19 +180,76 @@ fn lines_with_another_byte_are_read_alike(rt: HostRuntime) -> Result<(), Fail> {
         if let (Some(byte), Some(other)) = (bytes.get_mut(place), OTHER_BYTES.get(other)) {
             *byte = *other;
         }
-        let bytes = bytes.as_slice();
-        match (read(alloc, bytes), read_by_value(alloc, bytes)) {
-            (Ok(line), Ok(other)) => {
-                assert_eq!(rt; print(alloc, &line)?.as_bytes(), bytes);
-                assert_eq!(rt; print(alloc, &other)?.as_bytes(), bytes);
-            }
-            (line, other) => {
-                assert_eq!(rt; line.err(), Some(ReadRefusal::BadLine));
-                assert_eq!(rt; other.err(), Some(ReadRefusal::BadLine));
-            }
-        }
+        is_read_alike(&rt, alloc, bytes.as_slice())?;
     }
     Ok(())
+}
+
+/// The text of what both ways of reading find is the text again.
+fn comes_back(rt: &impl Abort, alloc: Global, text: &str) -> Result<(), Fail> {
+    let printed = read_and_printed(alloc, text.as_bytes())?;
+    assert_eq!(rt; printed.as_str(), text);
+    let printed = read_by_value_and_printed(alloc, text.as_bytes())?;
+    assert_eq!(rt; printed.as_str(), text);
+    Ok(())
+}
+
+/// Both ways of reading find a line with these bytes, or neither does.
+fn is_read_alike(rt: &impl Abort, alloc: Global, bytes: &[u8]) -> Result<(), Fail> {
+    let known = is_line(read_and_printed(alloc, bytes), bytes);
+    assert_eq!(rt;
+        known,
+        is_line(read_by_value_and_printed(alloc, bytes), bytes)
+    );
+    assert!(rt; known.is_some());
+    Ok(())
+}
+
+/// Whether there is a text with these bytes, or a bad line; and none where it is another text or another refusal.
+fn is_line(printed: Result<String, ReadRefusal>, bytes: &[u8]) -> Option<bool> {
+    match printed {
+        Ok(text) if text.as_bytes() == bytes => Some(true),
+        Err(ReadRefusal::BadLine) => Some(false),
+        _ => None,
+    }
+}
+
+fn read_and_printed(alloc: Global, bytes: &[u8]) -> Result<String, ReadRefusal> {
+    let line = read(alloc, bytes)?;
+    Ok(print(alloc, &line)?)
+}
+
+fn read_by_value_and_printed(alloc: Global, bytes: &[u8]) -> Result<String, ReadRefusal> {
+    let line = read_by_value(alloc, bytes)?;
+    Ok(print(alloc, &line)?)
+}
+
+fn is_found_at_once(alloc: Global, text: &str) -> Result<bool, NoMemory> {
+    Ok(read_at_once(alloc, text.as_bytes())?.is_some())
+}
+
+/// The text of the JSON value of a text.
+fn printed_value(alloc: Global, text: &str) -> Result<String, Fail> {
+    let value = Value::from_slice(alloc, text.as_bytes())?;
+    Ok(value.to_string(alloc)?)
+}
+
+/// The text of an answer with a name, which stands there as JSON has it.
+fn answer_text(alloc: Global, escaped: &str) -> Result<String, AllocError> {
+    format!(in alloc;
+        r#"{{"ar":"no","brave":"yes","cores":[3],"iar":"no","k":"answer","names":["{escaped}"],"tuple":[5]}}"#
+    )
+}
+
+/// The one name of an answer.
+fn name_told(alloc: Global, text: &str) -> Result<String, Fail> {
+    let Line::Answer { names, .. } = read(alloc, text.as_bytes())? else {
+        return Err(Fail::from("another kind"));
+    };
+    let [name] = names.as_slice() else {
+        return Err(Fail::from("not one name"));
+    };
+    Ok(String::from_str(alloc, name.as_str())?)
 }
 
 #[test]
