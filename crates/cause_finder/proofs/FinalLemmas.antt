@@ -16,7 +16,8 @@ use Rattle.cq_terms.specs.Knowledge.{AreDistinct}
 use Rattle.cq_terms.specs.Query.{Query}
 use Rattle.cq_meaning.specs.Candidates.{Every, IsCause, AreCandidates, AreCauses}
 use Rattle.cq_meaning.specs.Conflicts.{AreConsistent, FactsEntail}
-use Rattle.cq_meaning.specs.Entailment.{IsAscending, HasImage}
+use Rattle.cq_meaning.specs.Entailment.{HasImage}
+use Rattle.cq_terms.specs.Lists.{IsAscending}
 use Rattle.cq_meaning.specs.Rewriting.{IsClosure, IsSupport}
 use Rattle.cq_meaning.proofs.Ascending.{All-of}
 use Rattle.cq_meaning.proofs.ByLists.{consistent_by_lists}

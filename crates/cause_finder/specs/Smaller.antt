@@ -4,7 +4,7 @@ use Rattle.std.specs.Ordering.{nat_cmp, on}
 use Rattle.std.specs.declared.cmp.Ordering.{Ordering}
 use Rattle.std.specs.Cmp.Lexicographic.{slice_cmp}
 use Rattle.std.specs.List.Sorted.{IsStrictlySortedBy}
-use Rattle.cq_terms.specs.Conflicts.{IsAscending}
+use Rattle.cq_terms.specs.Lists.{IsAscending}
 use Rattle.cause_finder.specs.declared.support.Support.{Support}
 
 -- the number of the image at the depth, and 0 where the image ends before

@@ -2,7 +2,7 @@
 
 ghost use Rattle.std.specs.Prelude.{◌≡◌, ◌≢◌, ◌<◌, ◌≤◌, ◌↔◌, ◌∷◌, ◌++◌, [], IfOk, OnOk, IsTrue, All, length, take, slice_index_or};
 ghost use Rattle.std.specs.List.Sorted.{IsStrictlySortedBy};
-ghost use Rattle.cq_terms.specs.Conflicts.{IsAscending};
+ghost use Rattle.cq_terms.specs.Lists.{IsAscending};
 ghost use Rattle.cause_finder.specs.declared.support.Support.{Support};
 ghost use Rattle.cause_finder.specs.Supports.{support_cmp};
 ghost use Rattle.cause_finder.specs.Groups.{AreGrouped, HasNoPart, IsFree, IsPickedFrom};

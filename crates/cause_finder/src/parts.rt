@@ -1,7 +1,8 @@
 //! Facts that clash, and lists of facts that don't.
 
 ghost use Rattle.std.specs.Prelude.{◌≡◌, ◌<◌, ◌↔◌, IsTrue, All, Contains, length};
-ghost use Rattle.cq_terms.specs.Conflicts.{AreInConflict, IsAscending};
+ghost use Rattle.cq_terms.specs.Conflicts.{AreInConflict};
+ghost use Rattle.cq_terms.specs.Lists.{IsAscending};
 ghost use Rattle.cause_finder.specs.Groups.{IsFree, IsFreeAmong};
 
 use cq_terms::Conflicts;

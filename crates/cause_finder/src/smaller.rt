@@ -2,7 +2,7 @@
 
 ghost use Rattle.std.specs.Prelude.{◌≡◌, ◌+◌, ◌<◌, ◌≤◌, ◌↔◌, ℕ, IsTrue, All, length, slice_index_or};
 ghost use Rattle.std.specs.List.Sorted.{IsNonDecreasingBy};
-ghost use Rattle.cq_terms.specs.Conflicts.{IsAscending};
+ghost use Rattle.cq_terms.specs.Lists.{IsAscending};
 ghost use Rattle.cause_finder.specs.declared.support.Support.{Support};
 ghost use Rattle.cause_finder.specs.Groups.{HasNoPart};
 ghost use Rattle.cause_finder.specs.Smaller.{AreNarrowed, AreSplit, HasPartFrom, number_at};

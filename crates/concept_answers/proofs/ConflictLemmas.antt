@@ -12,7 +12,7 @@ use Rattle.cq_terms.specs.declared.facts.Fact.TheVariants as fact
 use Rattle.cq_terms.specs.Knowledge.{Knowledge}
 use Rattle.cq_meaning.specs.ConceptNames.{IsUnsatisfiable, AreApart, ClashByNames}
 use Rattle.cq_meaning.specs.Conflicts.{Conflict}
-use Rattle.cq_meaning.specs.Entailment.{IsAscending}
+use Rattle.cq_terms.specs.Lists.{IsAscending}
 use Rattle.cq_meaning.specs.Laws.{ConceptNameConflicts}
 use Rattle.concept_answers.specs.Answers.{AreConflictsWith, HasConflicts}
 use Rattle.concept_answers.specs.Hierarchies.{names_at}

@@ -5,7 +5,7 @@ use Rattle.std.proofs.lemmas.List.{get_or-set_same, get_or-set_other, length-set
 use Rattle.std.proofs.lemmas.List.Elements.{Contains-get_or}
 use Rattle.std.proofs.lemmas.List.Quantifiers.{all_pairs_push}
 use Rattle.std.proofs.lemmas.Option.{slice_get_within, same_Some, none-some}
-use Rattle.cq_meaning.specs.Entailment.{IsAscending}
+use Rattle.cq_terms.specs.Lists.{IsAscending}
 use Rattle.concept_answers.specs.Hierarchies.{names_at, with_entry}
 use Rattle.concept_answers.specs.Places.{HasKey, ArePlaces, with_place}
 use Rattle.concept_answers.proofs.ClosureLemmas.{names_at-none}

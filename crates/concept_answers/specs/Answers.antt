@@ -5,7 +5,7 @@ use Rattle.cq_terms.specs.Knowledge.{Knowledge}
 use Rattle.cq_terms.specs.Query.{Query}
 use Rattle.cq_meaning.specs.Candidates.{AreCandidates, IsWitness}
 use Rattle.cq_meaning.specs.Conflicts.{Conflict}
-use Rattle.cq_meaning.specs.Entailment.{IsAscending}
+use Rattle.cq_terms.specs.Lists.{IsAscending}
 use Rattle.cq_meaning.specs.Repairs.{IsBrave}
 use Rattle.concept_answers.specs.declared.verdicts.Answer.{Answer}
 

@@ -1,6 +1,6 @@
 -- The places of each key in a list.
 use Rattle.std.specs.Prelude.{◌≡◌, ℕ, ◌<◌, ◌↔◌, List, Option, Some, None, Contains, slice_get}
-use Rattle.cq_meaning.specs.Entailment.{IsAscending}
+use Rattle.cq_terms.specs.Lists.{IsAscending}
 use Rattle.concept_answers.specs.Hierarchies.{names_at, with_entry}
 
 -- the key stands at the place

@@ -10,7 +10,8 @@ use Rattle.std.proofs.lemmas.List.{length-map, length-append, append-nil}
 use Rattle.std.proofs.lemmas.List.Elements.{All-contains, filter_map-append}
 use Rattle.std.proofs.lemmas.List.Kept.{AllPairs-cons, AllPairs-filter}
 use Rattle.cq_terms.specs.declared.hits.Clash.{Clash}
-use Rattle.cq_terms.specs.Conflicts.{single, couple, own_facts, couples, IsAscending, IsBefore}
+use Rattle.cq_terms.specs.Conflicts.{single, couple, own_facts, couples, IsBefore}
+use Rattle.cq_terms.specs.Lists.{IsAscending}
 use Rattle.cq_meaning.proofs.Members.{Contains-head, Contains-later, Contains-cases, Contains-nil}
 use Rattle.cq_meaning.proofs.Listed.{append_cases}
 use Rattle.cq_meaning.proofs.Ascending.{All-of}

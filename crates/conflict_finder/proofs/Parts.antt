@@ -7,7 +7,8 @@ use Rattle.std.proofs.lemmas.List.Kept.{AllPairs-cons}
 use Rattle.cq_terms.specs.declared.facts.Fact.{Fact}
 use Rattle.cq_terms.specs.Knowledge.{AreDistinct}
 use Rattle.cq_terms.specs.Query.{Query}
-use Rattle.cq_meaning.specs.Entailment.{HasImage, IsAscending}
+use Rattle.cq_meaning.specs.Entailment.{HasImage}
+use Rattle.cq_terms.specs.Lists.{IsAscending}
 use Rattle.cq_meaning.proofs.Members.{Contains-head, Contains-later, Contains-slice_get, slice_get-Contains}
 use Rattle.cq_meaning.proofs.Places.{some_inj, AllZip-get, AllZip-get_back}
 use Rattle.cq_meaning.proofs.Supports.{image_has, Match-image}

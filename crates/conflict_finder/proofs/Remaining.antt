@@ -5,7 +5,7 @@ use Rattle.std.proofs.lemmas.Bool.{cases_lt}
 use Rattle.std.proofs.lemmas.List.{length-append}
 use Rattle.std.proofs.lemmas.List.Quantifiers.{all_pairs_push}
 use Rattle.cq_terms.specs.declared.facts.Fact.{Fact}
-use Rattle.cq_meaning.specs.Entailment.{IsAscending}
+use Rattle.cq_terms.specs.Lists.{IsAscending}
 use Rattle.cq_meaning.proofs.Ascending.{All-of}
 use Rattle.cq_meaning.proofs.Listed.{append_left, append_right, append_cases}
 use Rattle.cq_meaning.proofs.Members.{Contains-cases, Contains-nil, Contains-one}

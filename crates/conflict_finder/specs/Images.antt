@@ -7,7 +7,8 @@ use Rattle.cq_terms.specs.declared.query.QAtom.{QAtom}
 use Rattle.cq_terms.specs.declared.query.QAtom.TheVariants as atom
 use Rattle.cq_terms.specs.Knowledge.{AreDistinct}
 use Rattle.cq_terms.specs.Query.{Query}
-use Rattle.cq_meaning.specs.Entailment.{HasImage, IsAscending}
+use Rattle.cq_meaning.specs.Entailment.{HasImage}
+use Rattle.cq_terms.specs.Lists.{IsAscending}
 use Rattle.cq_steps.specs.declared.closure.Member.{Member}
 use Rattle.conflict_finder.specs.declared.seen.Source.{Source}
 use Rattle.conflict_finder.specs.Seen.{numbers_of, HasKey}

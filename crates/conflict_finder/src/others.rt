@@ -2,7 +2,7 @@
 
 ghost use Rattle.std.specs.Prelude.{◌≡◌, ◌<◌, ◌≤◌, ◌↔◌, ℕ, length, All, Contains, IfOk, Some, slice_get};
 ghost use Rattle.std.specs.List.{AllZip};
-ghost use Rattle.cq_meaning.specs.Entailment.{IsAscending};
+ghost use Rattle.cq_terms.specs.Lists.{IsAscending};
 ghost use Rattle.conflict_finder.specs.Seen.{HasKey};
 
 use crate::seen::Seen;

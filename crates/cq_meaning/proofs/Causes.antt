@@ -8,7 +8,7 @@ use Rattle.cq_terms.specs.declared.facts.Fact.{Fact}
 use Rattle.cq_terms.specs.declared.facts.Repairs.{Repairs}
 use Rattle.cq_terms.specs.Knowledge.{Knowledge}
 use Rattle.cq_terms.specs.Query.{Query}
-use Rattle.cq_meaning.specs.Entailment.{IsAscending}
+use Rattle.cq_terms.specs.Lists.{IsAscending}
 use Rattle.cq_meaning.specs.Conflicts.{facts_in, In, AreConsistent, FactsEntail}
 use Rattle.cq_meaning.specs.Candidates.{Without}
 use Rattle.cq_meaning.specs.Repairs.{IsChosen, IsAcyclic}

@@ -7,7 +7,7 @@ use Rattle.cq_terms.specs.declared.axioms.Axiom.TheVariants.{Sub, Disjoint, SubR
 use Rattle.cq_terms.specs.declared.facts.Fact.{Fact}
 use Rattle.cq_terms.specs.Knowledge.{Knowledge, AreDistinct}
 use Rattle.cq_meaning.specs.Chase.{Consistent}
-use Rattle.cq_meaning.specs.Entailment.{IsAscending}
+use Rattle.cq_terms.specs.Lists.{IsAscending}
 use Rattle.cq_meaning.specs.Conflicts.{facts_in, Only, Both, AreConsistent, IsSelfInconsistent, Conflict}
 use Rattle.cq_meaning.specs.RewritingLaws.{IsForbidden}
 use Rattle.cq_meaning.proofs.Members.{Contains-head, Contains-later, Contains-cases, Contains-nil}

@@ -13,7 +13,7 @@ use Rattle.cq_meaning.specs.Entailment.{AtomBecomes, Match, HasImage}
 use Rattle.cq_meaning.specs.Conflicts.{facts_in, FactsEntail, AreConsistent}
 use Rattle.cq_meaning.specs.Candidates.{Every, Without, IsCause}
 use Rattle.cq_meaning.specs.Rewriting.{IsSupport}
-use Rattle.cq_meaning.specs.Entailment.{IsAscending}
+use Rattle.cq_terms.specs.Lists.{IsAscending}
 use Rattle.cq_meaning.proofs.Members.{Contains-slice_get, slice_get-Contains, Contains-head, Contains-later}
 use Rattle.cq_meaning.proofs.Places.{some_inj, AllZip-get_back}
 use Rattle.cq_meaning.proofs.Single.{FactsEntail-mono}

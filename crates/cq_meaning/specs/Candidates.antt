@@ -8,7 +8,7 @@ use Rattle.cq_terms.specs.declared.query.QAtom.TheVariants as atom
 use Rattle.cq_terms.specs.Knowledge.{Knowledge}
 use Rattle.cq_terms.specs.Query.{Query}
 use Rattle.cq_meaning.specs.Conflicts.{Only, AreConsistent, FactsEntail}
-use Rattle.cq_meaning.specs.Entailment.{IsAscending}
+use Rattle.cq_terms.specs.Lists.{IsAscending}
 
 -- every fact of the table
 abbrev pub Every : ℕ → Type 0

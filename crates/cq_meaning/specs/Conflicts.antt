@@ -5,7 +5,8 @@ use Rattle.cq_terms.specs.declared.facts.Fact.{Fact}
 use Rattle.cq_terms.specs.Knowledge.{Knowledge}
 use Rattle.cq_terms.specs.Query.{Query}
 use Rattle.cq_meaning.specs.Chase.{Consistent}
-use Rattle.cq_meaning.specs.Entailment.{Entails, IsAscending}
+use Rattle.cq_meaning.specs.Entailment.{Entails}
+use Rattle.cq_terms.specs.Lists.{IsAscending}
 
 -- the facts whose numbers are in the set
 abbrev pub facts_in : Knowledge → (ℕ → Type 0) → Fact → Type 0

@@ -7,6 +7,7 @@ use Rattle.cq_terms.specs.declared.query.QAtom.{QAtom}
 use Rattle.cq_terms.specs.declared.query.QAtom.TheVariants as atom
 use Rattle.cq_terms.specs.declared.axioms.Axiom.{Axiom}
 use Rattle.cq_terms.specs.declared.facts.Fact.{Fact}
+use Rattle.cq_terms.specs.Lists.{IsAscending}
 use Rattle.cq_terms.specs.Query.{Query}
 use Rattle.cq_meaning.specs.Chase.{Node, Named, Atom, ConceptAtom, RoleAtom, atom_of, InStage}
 
@@ -38,10 +39,6 @@ Entails axioms F q tuple = (k : ℕ) × HasMatch (InStage axioms F k) q tuple
 abbrev pub Match : Query → (Fact → Type 0) → List ℕ → List Fact → Type 0
 Match q F tuple image = (v : ℕ → ℕ) × HeadBecomes (λ i. Named (v i)) q.head tuple
     × AllZip (λ a f. F f × AtomBecomes (λ i. Named (v i)) a (atom_of f)) q.body image
-
--- each number is greater than the one before it
-abbrev pub IsAscending : List ℕ → Type 0
-IsAscending numbers = AllPairs (λ i j. i < j) numbers
 
 -- a match of the query in the table whose atoms become exactly the facts of these ascending numbers
 pub record HasImage (facts : List Fact) (q : Query) (tuple : List ℕ) (numbers : List ℕ) : Type 0 where

@@ -1,6 +1,7 @@
 pub mod Candidates
 pub mod Chase
 pub mod ConceptNames
+pub mod ConflictGraphs
 pub mod Conflicts
 pub mod Cores
 pub mod Entailment

@@ -7,7 +7,8 @@ use Rattle.cq_terms.specs.Query.{Query}
 use Rattle.cq_meaning.specs.Candidates.{Every, IsCause}
 use Rattle.cq_meaning.specs.Chase.{Consistent}
 use Rattle.cq_meaning.specs.Conflicts.{In, AreConsistent, FactsEntail, IsSelfInconsistent, Conflict, AreConflicts}
-use Rattle.cq_meaning.specs.Entailment.{IsAscending, Entails, Match}
+use Rattle.cq_meaning.specs.Entailment.{Entails, Match}
+use Rattle.cq_terms.specs.Lists.{IsAscending}
 use Rattle.cq_meaning.specs.NormalForm.{IsNormalForm, normal}
 use Rattle.cq_meaning.specs.Rewriting.{IsInClosure, IsClosure, IsSupport, disjointness_query}
 

@@ -5,7 +5,7 @@ use Rattle.cq_terms.specs.Knowledge.{Knowledge}
 use Rattle.cq_terms.specs.Query.{Query}
 use Rattle.cq_meaning.specs.Candidates.{IsCause}
 use Rattle.cq_meaning.specs.Conflicts.{In, AreConsistent, FactsEntail}
-use Rattle.cq_meaning.specs.Entailment.{IsAscending}
+use Rattle.cq_terms.specs.Lists.{IsAscending}
 use Rattle.cq_meaning.specs.Repairs.{IsChosen, IsAcyclic, IsBrave, IsAr, IsIar}
 
 -- the set has all facts of some cause of the tuple

@@ -3,10 +3,11 @@ use Rattle.std.proofs.Common.{◌≡◌, ◌<◌, ◌≤◌, ◌*◌, ◌⊎◌,
 use Rattle.std.specs.List.{flat_map, cons_option, All, AllPairs}
 use Rattle.std.proofs.lemmas.Bool.{cases_eq, eq-eqb, ne_eqb}
 use Rattle.std.proofs.lemmas.List.Elements.{All-nil, All-cons, All-head, All-tail, All-contains, Contains-get_or}
-use Rattle.cq_terms.specs.declared.flat_lists.Entry.{Entry}
+use Rattle.cq_terms.specs.declared.flat_lists.KeyedNumber.{KeyedNumber}
 use Rattle.cq_terms.specs.declared.hits.Clash.{Clash}
 use Rattle.cq_terms.specs.FlatLists.{values_at, HaveKeysBelow}
-use Rattle.cq_terms.specs.Conflicts.{IsAscending, IsBefore, IsOneOrTwo, couple, couples, AreInConflict, AreClashes}
+use Rattle.cq_terms.specs.Conflicts.{IsBefore, IsOneOrTwo, couple, couples, AreInConflict, AreClashes}
+use Rattle.cq_terms.specs.Lists.{IsAscending}
 use Rattle.cq_terms.specs.ConflictTables.{both_ways}
 
 -- `Contains` by cases on the list
@@ -47,19 +48,19 @@ pair_is : (p : ℕ × ℕ) (i j : ℕ) → p.0 ≡ i → p.1 ≡ j → p ≡ (i,
 pair_is p i j e f = ap (λ (a : ℕ). (a, p.1)) e ∙ ap (λ (b : ℕ). (i, b)) f
 
 -- what a pair adds to the list of a fact
-values_first : (p : ℕ × ℕ) (rest : List Entry) (i : ℕ) → p.0 ≡ i → (p.1 ≡ i → ⊥) → values_at (both_ways p ++ rest) i ≡ p.1 ∷ values_at rest i
+values_first : (p : ℕ × ℕ) (rest : List KeyedNumber) (i : ℕ) → p.0 ≡ i → (p.1 ≡ i → ⊥) → values_at (both_ways p ++ rest) i ≡ p.1 ∷ values_at rest i
 values_first p rest i same other =
     let a : eqb p.0 i ≡ true = eq-eqb p.0 i same in
     let b : eqb p.1 i ≡ false = ne_eqb p.1 i other in
     rw (a, b) refl
 
-values_second : (p : ℕ × ℕ) (rest : List Entry) (i : ℕ) → (p.0 ≡ i → ⊥) → p.1 ≡ i → values_at (both_ways p ++ rest) i ≡ p.0 ∷ values_at rest i
+values_second : (p : ℕ × ℕ) (rest : List KeyedNumber) (i : ℕ) → (p.0 ≡ i → ⊥) → p.1 ≡ i → values_at (both_ways p ++ rest) i ≡ p.0 ∷ values_at rest i
 values_second p rest i other same =
     let a : eqb p.0 i ≡ false = ne_eqb p.0 i other in
     let b : eqb p.1 i ≡ true = eq-eqb p.1 i same in
     rw (a, b) refl
 
-values_neither : (p : ℕ × ℕ) (rest : List Entry) (i : ℕ) → (p.0 ≡ i → ⊥) → (p.1 ≡ i → ⊥) → values_at (both_ways p ++ rest) i ≡ values_at rest i
+values_neither : (p : ℕ × ℕ) (rest : List KeyedNumber) (i : ℕ) → (p.0 ≡ i → ⊥) → (p.1 ≡ i → ⊥) → values_at (both_ways p ++ rest) i ≡ values_at rest i
 values_neither p rest i other another =
     let a : eqb p.0 i ≡ false = ne_eqb p.0 i other in
     let b : eqb p.1 i ≡ false = ne_eqb p.1 i another in
@@ -85,7 +86,7 @@ pub adjacent_sound : (pairs : List (ℕ × ℕ)) (i j : ℕ) → All IsUpward pa
 adjacent_sound [] i j up h = absurd (Contains-nil j h)
 adjacent_sound (p ∷ pairs) i j up h = by (place_of p i (All-head IsUpward p pairs up)) (λ k. adjacent_sound pairs i j (All-tail IsUpward p pairs up) k)
   where
-    rest : List Entry
+    rest : List KeyedNumber
     rest = flat_map both_ways pairs
 
     later : Contains pairs (i, j) ⊎ Contains pairs (j, i) → Contains (p ∷ pairs) (i, j) ⊎ Contains (p ∷ pairs) (j, i)
@@ -109,7 +110,7 @@ adjacent_complete [] i j up (inl h) = absurd (Contains-nil (i, j) h)
 adjacent_complete [] i j up (inr h) = absurd (Contains-nil (j, i) h)
 adjacent_complete (p ∷ pairs) i j up h = by (place_of p i (All-head IsUpward p pairs up)) h (λ k. adjacent_complete pairs i j (All-tail IsUpward p pairs up) k)
   where
-    rest : List Entry
+    rest : List KeyedNumber
     rest = flat_map both_ways pairs
 
     parts : (a b : ℕ) → Contains (p ∷ pairs) (a, b) → ((p.0 ≡ a) × (p.1 ≡ b)) ⊎ Contains pairs (a, b)
@@ -134,7 +135,7 @@ pub adjacent_ascending : (pairs : List (ℕ × ℕ)) (i : ℕ) → All IsUpward 
 adjacent_ascending [] i up h = λ a b d less l. absurd (omega arith)
 adjacent_ascending (p ∷ pairs) i up h = by (place_of p i (All-head IsUpward p pairs up)) (adjacent_ascending pairs i (All-tail IsUpward p pairs up) (AllPairs-tail IsBefore p pairs h))
   where
-    rest : List Entry
+    rest : List KeyedNumber
     rest = flat_map both_ways pairs
 
     later : All (IsBefore p) pairs

@@ -1,17 +1,18 @@
 -- How the tables of a `Conflicts` come from its clashes.
 use Rattle.std.specs.Prelude.{◌≡◌, ℕ, ◌<◌, ◌↔◌, List, [], ◌∷◌, length, Contains, Bool, IsTrue, false, slice_index_or}
 use Rattle.std.specs.List.{flat_map}
-use Rattle.cq_terms.specs.declared.flat_lists.Entry.{Entry}
+use Rattle.cq_terms.specs.declared.flat_lists.KeyedNumber.{KeyedNumber}
 use Rattle.cq_terms.specs.declared.hits.Clash.{Clash}
-use Rattle.cq_terms.specs.Conflicts.{IsOwn, couples, IsAscending, AreInConflict, AreClashes}
+use Rattle.cq_terms.specs.Conflicts.{IsOwn, couples, AreInConflict, AreClashes}
+use Rattle.cq_terms.specs.Lists.{IsAscending}
 use Rattle.cq_terms.specs.FlatLists.{values_at}
 
 -- each of the two facts, with the other as the key
-abbrev pub both_ways : ℕ × ℕ → List Entry
+abbrev pub both_ways : ℕ × ℕ → List KeyedNumber
 both_ways p = record { key = p.0; value = p.1 } ∷ record { key = p.1; value = p.0 } ∷ []
 
 -- an entry for each fact of each pair in conflict
-abbrev pub conflict_entries : List Clash → List Entry
+abbrev pub conflict_entries : List Clash → List KeyedNumber
 conflict_entries clashes = flat_map both_ways (couples clashes)
 
 -- the facts that conflict with the fact, in the order of the clashes

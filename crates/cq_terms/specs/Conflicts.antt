@@ -2,15 +2,12 @@
 use Rattle.std.specs.Prelude.{◌≡◌, ℕ, ◌<◌, ◌≤◌, ◌^◌, ◌⊎◌, List, [], ◌∷◌, length, All, AllPairs, Contains, Option, Some, None}
 use Rattle.std.specs.List.{filter_map}
 use Rattle.cq_terms.specs.declared.hits.Clash.{Clash}
+use Rattle.cq_terms.specs.Lists.{IsAscending}
 
 -- how many facts there are, and the clashes: facts that are self-inconsistent, and pairs in conflict
 pub record ConflictGraph : Type 0 where
   pub facts : ℕ
   pub clashes : List Clash
-
--- each number is greater than those before it
-abbrev pub IsAscending : List ℕ → Type 0
-IsAscending numbers = AllPairs (λ i j. i < j) numbers
 
 -- the fact of a clash of one
 abbrev pub single : List ℕ → Option ℕ

@@ -1,5 +1,5 @@
 -- What contracts see of a knowledge base.
-use Rattle.std.specs.Prelude.{◌≡◌, ℕ, ◌<◌, List, length, slice_get, Some, All}
+use Rattle.std.specs.Prelude.{◌≡◌, ℕ, ◌<◌, List, [], length, slice_get, Some, All}
 use Rattle.cq_terms.specs.declared.axioms.Axiom.{Axiom}
 use Rattle.cq_terms.specs.declared.facts.Fact.{Fact}
 use Rattle.cq_terms.specs.declared.facts.Pair.{Pair}
@@ -9,6 +9,10 @@ pub record Knowledge : Type 0 where
   pub axioms : List Axiom
   pub facts : List Fact
   pub pairs : List Pair
+
+-- the axioms and the facts, without a priority
+abbrev pub kb_of : List Axiom → List Fact → Knowledge
+kb_of axioms facts = record { axioms = axioms; facts = facts; pairs = [] }
 
 -- no fact stands at two places
 abbrev pub AreDistinct : List Fact → Type 0

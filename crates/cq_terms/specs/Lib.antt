@@ -2,6 +2,8 @@ pub mod ConflictTables
 pub mod Conflicts
 pub mod FlatLists
 pub mod Knowledge
+pub mod Layout
+pub mod Lists
 pub mod Names
 pub mod Query
-pub mod Spans
+pub mod SafeQuery

@@ -1,10 +1,11 @@
 //! The self-inconsistent facts of a table and the pairs in conflict, with the facts that conflict with each fact.
 
 ghost use Rattle.std.specs.Prelude.{◌≡◌, ◌<◌, ◌^◌, ◌↔◌, ℕ, length, IsTrue, Contains, IfOk, OnOk, All, ◌++◌};
-ghost use Rattle.cq_terms.specs.Conflicts.{AreClashes, AreInConflict, IsAscending, IsOwn, couple, single};
+ghost use Rattle.cq_terms.specs.Conflicts.{AreClashes, AreInConflict, IsOwn, couple, single};
+ghost use Rattle.cq_terms.specs.Lists.{IsAscending};
 ghost use Rattle.cq_terms.specs.ConflictTables.{AreMarks, both_ways, conflict_entries, rivals};
 
-use crate::{Clash, Entry, FlatLists, NoMemory};
+use crate::{Clash, FlatLists, KeyedNumber, NoMemory};
 use std::alloc::Global;
 use std::marker::Model;
 
@@ -102,7 +103,7 @@ fn own_marks(alloc: Global, facts: u32, clashes: &[Clash]) -> Result<Vec<bool>, 
 }
 
 /// Answers two entries for each pair in conflict, one for each fact.
-fn entries(alloc: Global, facts: u32, clashes: &[Clash]) -> Result<Vec<Entry>, NoMemory>
+fn entries(alloc: Global, facts: u32, clashes: &[Clash]) -> Result<Vec<KeyedNumber>, NoMemory>
     requires kept { AreClashes facts clashes.now }
 
     ensures exact { IfOk result (λ entries. entries.items ≡ conflict_entries clashes.now) }
@@ -117,14 +118,14 @@ fn entries(alloc: Global, facts: u32, clashes: &[Clash]) -> Result<Vec<Entry>, N
 }
 
 /// Appends each of the two facts with the other as its key.
-fn push_both(entries: &mut Vec<Entry>, lower: u32, upper: u32) -> Result<(), NoMemory>
+fn push_both(entries: &mut Vec<KeyedNumber>, lower: u32, upper: u32) -> Result<(), NoMemory>
     ensures exact { OnOk result (entries.new.items ≡ entries.old.items ++ both_ways (lower, upper)) }
 {
-    entries.push(Entry {
+    entries.push(KeyedNumber {
         key: lower,
         value: upper,
     })?;
-    entries.push(Entry {
+    entries.push(KeyedNumber {
         key: upper,
         value: lower,
     })?;

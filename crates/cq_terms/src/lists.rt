@@ -1,15 +1,17 @@
 //! Lists of numbers, of lists and of texts, seen as the lists that they are.
 
-ghost use Rattle.std.specs.Prelude.{◌≡◌, ◌↔◌, ◌++◌, ◌∷◌, [], length, map, string_bytes, IsTrue, OnOk, OnErr};
+ghost use Rattle.std.specs.Prelude.{◌≡◌, ◌↔◌, ◌++◌, ◌∷◌, [], length, map, string_bytes, Contains, IsTrue, IfOk, OnOk, OnErr};
+ghost use Rattle.cq_terms.specs.Lists.{IsAscending, IsSorted};
 
 use crate::NoMemory;
+use smallvec::SmallVec;
 use std::alloc::Global;
 use std::marker::Model;
 
-/// A list of numbers below 2^32.
+/// A list of numbers below 2^32, of which up to four take no memory of their own.
 #[derive(Debug, Drop)]
 pub struct Ids {
-    items: Vec<u32>,
+    items: SmallVec<u32, 4>,
 }
 
 impl Model for Ids {
@@ -26,8 +28,27 @@ impl Ids {
         ensures { result ≡ [] }
     {
         Ids {
-            items: Vec::new(alloc),
+            items: SmallVec::new(alloc),
         }
+    }
+
+    /// The list of these numbers.
+    pub fn from_slice(alloc: Global, numbers: &[u32]) -> Result<Self, NoMemory>
+        ensures exact { IfOk result (λ ids. ids ≡ numbers.now) }
+    {
+        Ok(Ids {
+            items: SmallVec::from_slice(alloc, numbers)?,
+        })
+    }
+
+    /// The ascending list of these numbers, each once.
+    pub fn sorted(alloc: Global, numbers: &[u32]) -> Result<Self, NoMemory>
+        ensures exact { IfOk result (IsSorted numbers.now) }
+    {
+        let mut items = SmallVec::from_slice(alloc, numbers)?;
+        items.sort_unstable();
+        items.dedup();
+        Ok(Ids { items })
     }
 
     /// Appends a number.
@@ -61,10 +82,19 @@ impl Ids {
     }
 }
 
-/// A list of numbers below 2^64.
+/// Whether the ascending list has the number, by halving.
+pub fn has_sorted(list: &[u32], number: u32) -> bool
+    requires ascending { IsAscending list.now }
+
+    ensures exact { IsTrue result ↔ Contains list.now number }
+{
+    list.binary_search(&number).is_ok()
+}
+
+/// A list of numbers below 2^64, of which up to four take no memory of their own.
 #[derive(Debug, Drop)]
 pub struct Longs {
-    items: Vec<u64>,
+    items: SmallVec<u64, 4>,
 }
 
 impl Model for Longs {
@@ -81,8 +111,17 @@ impl Longs {
         ensures { result ≡ [] }
     {
         Longs {
-            items: Vec::new(alloc),
+            items: SmallVec::new(alloc),
         }
+    }
+
+    /// The list of these numbers.
+    pub fn from_slice(alloc: Global, numbers: &[u64]) -> Result<Self, NoMemory>
+        ensures exact { IfOk result (λ longs. longs ≡ numbers.now) }
+    {
+        Ok(Longs {
+            items: SmallVec::from_slice(alloc, numbers)?,
+        })
     }
 
     /// Appends a number.

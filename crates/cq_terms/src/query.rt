@@ -2,7 +2,9 @@
 
 ghost use Rattle.std.specs.Prelude.{◌≡◌};
 ghost use Rattle.cq_terms.specs.Query.{IsSafe};
+ghost use Rattle.cq_terms.specs.SafeQuery.{if_safe};
 
+use crate::safe_query::is_safe;
 use std::marker::Model;
 
 /// A term of a query.
@@ -51,6 +53,17 @@ impl Cq {
         ensures exact { result ≡ record { head = head.items; body = body.items } }
     {
         Cq { head, body }
+    }
+
+    /// The query of the two lists, where they are those of one.
+    pub fn checked(head: Vec<Term>, body: Vec<QAtom>) -> Option<Cq>
+        ensures exact { result ≡ if_safe head.items body.items }
+    {
+        if is_safe(head.as_slice(), body.as_slice()) {
+            Some(Cq::new(head, body))
+        } else {
+            None
+        }
     }
 
     /// Lends the head terms.

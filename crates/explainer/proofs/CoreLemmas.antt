@@ -21,7 +21,7 @@ use Rattle.repair_encoder.specs.Laws.{IsChosenWithin}
 use Rattle.repair_encoder.proofs.LawLemmas.{chosen_from_satisfied, satisfied_from_chosen}
 use Rattle.explainer.specs.declared.growth.Growing.{Growing}
 use Rattle.explainer.specs.Growth.{IsSettled, AreSettled, Drops}
-use Rattle.explainer.specs.Sets.{IsSorted}
+use Rattle.cq_terms.specs.Lists.{IsSorted}
 use Rattle.explainer.specs.Wanted.{IsReachedFrom, SatisfiesComponents, IsCoreFor}
 use Rattle.explainer.proofs.GrowthLemmas.{wider, conflict_of, conflict_from}
 

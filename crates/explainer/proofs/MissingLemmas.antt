@@ -4,7 +4,7 @@ use Rattle.std.proofs.lemmas.Bool.{cases_lt}
 use Rattle.std.proofs.lemmas.List.{take_more, take_all, get_or_default}
 use Rattle.std.proofs.lemmas.List.Elements.{All-contains, All-more, Contains-get_or, Contains-append_left, Contains-push, Contains-push_cases}
 use Rattle.cq_meaning.proofs.Members.{Contains-nil}
-use Rattle.explainer.specs.Sets.{IsSorted}
+use Rattle.cq_terms.specs.Lists.{IsSorted}
 use Rattle.explainer.specs.Missing.{IsLeastOutside, IsLeastOrNone, SomeIsPresent, AreLeastOf, AreMissing}
 
 -- ---- one cause

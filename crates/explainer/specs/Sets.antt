@@ -1,6 +1,5 @@
 -- Lists of numbers as sets.
-use Rattle.std.specs.Prelude.{◌≡◌, ℕ, ◌↔◌, ◌++◌, List, Contains}
-use Rattle.cq_terms.specs.Conflicts.{IsAscending}
+use Rattle.std.specs.Prelude.{◌≡◌, ℕ, ◌++◌, List, Contains}
 
 -- the list has grown by the fact unless it had it
 pub record Gains (fact : ℕ) (old new : List ℕ) : Type 0 where
@@ -8,11 +7,6 @@ pub record Gains (fact : ℕ) (old new : List ℕ) : Type 0 where
   pub grown : new ≡ old ++ more
   pub of : (i : ℕ) → Contains more i → i ≡ fact
   pub has : Contains new fact
-
--- the same numbers in ascending order
-pub record IsSorted (numbers sorted : List ℕ) : Type 0 where
-  pub ascending : IsAscending sorted
-  pub same : (i : ℕ) → Contains sorted i ↔ Contains numbers i
 
 -- a fact is in both lists
 abbrev pub Meets : List ℕ → List ℕ → Type 0

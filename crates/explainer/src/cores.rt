@@ -1,7 +1,7 @@
 //! Cores from present facts, grown from what they have to keep and drop.
 
 ghost use Rattle.std.specs.Prelude.{◌<◌, ◌++◌, All, Contains, IfOk};
-ghost use Rattle.cq_terms.specs.Conflicts.{IsAscending};
+ghost use Rattle.cq_terms.specs.Lists.{IsAscending};
 ghost use Rattle.priority_graph.specs.Priority.{IsOver};
 ghost use Rattle.explainer.specs.Wanted.{IsCoreFor, LiesInChosen, SatisfiesComponents};
 

@@ -1,7 +1,8 @@
 //! A set of facts in the order in which they came, with a look-up that takes constant time.
 
 ghost use Rattle.std.specs.Prelude.{◌≡◌, ◌≢◌, ◌↔◌, ◌<◌, [], length, slice_index, AllPairs, Contains, IsTrue, IfOk, OnOk};
-ghost use Rattle.explainer.specs.Sets.{Gains, IsSorted, Meets};
+ghost use Rattle.explainer.specs.Sets.{Gains, Meets};
+ghost use Rattle.cq_terms.specs.Lists.{IsSorted};
 
 use crate::numbers::ascending;
 use cq_terms::{Ids, NoMemory};

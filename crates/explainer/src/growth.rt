@@ -2,7 +2,7 @@
 //! facts are dropped.
 
 ghost use Rattle.std.specs.Prelude.{◌≡◌, ◌↔◌, ◌<◌, ℕ, [], length, slice_index, All, AllPairs, ◌≢◌, Contains, IfOk, OnOk};
-ghost use Rattle.cq_terms.specs.Conflicts.{IsAscending};
+ghost use Rattle.cq_terms.specs.Lists.{IsAscending};
 ghost use Rattle.priority_graph.specs.Priority.{Conflict, IsOver};
 ghost use Rattle.priority_graph.specs.Cores.{IsBlocked};
 ghost use Rattle.explainer.specs.Growth.{AreSettled, Drops, IsSettled, Keeps};

@@ -1,7 +1,7 @@
 //! Why no cause is present: the least fact of each that isn't.
 
 ghost use Rattle.std.specs.Prelude.{◌≡◌, ◌↔◌, None, Some, IfOk, IfSome, IsNone, MatchOption, unwrap_or, min, Contains};
-ghost use Rattle.cq_terms.specs.Conflicts.{IsAscending};
+ghost use Rattle.cq_terms.specs.Lists.{IsAscending};
 ghost use Rattle.explainer.specs.Missing.{AreMissing, IsLeastOrNone, SomeIsPresent};
 
 use crate::numbers::{ascending, has_sorted};

@@ -1,8 +1,8 @@
 //! Lists of numbers: look-ups, and ascending order.
 
 ghost use Rattle.std.specs.Prelude.{◌≡◌, ◌↔◌, Contains, IsTrue, IfOk};
-ghost use Rattle.cq_terms.specs.Conflicts.{IsAscending};
-ghost use Rattle.explainer.specs.Sets.{IsSorted, Meets};
+ghost use Rattle.cq_terms.specs.Lists.{IsAscending, IsSorted};
+ghost use Rattle.explainer.specs.Sets.{Meets};
 
 use cq_terms::{Ids, NoMemory};
 use std::alloc::Global;

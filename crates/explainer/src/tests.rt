@@ -2,7 +2,8 @@
 
 ghost use Rattle.std.specs.Prelude.{◌≡◌, ◌<◌, ◌≤◌, ◌^◌, ◌∷◌, [], length, All, AllPairs, Contains, IsTrue, IfOk};
 ghost use Rattle.clause_meaning.specs.Assignments.{IsTrueIn, Satisfies};
-ghost use Rattle.cq_terms.specs.Conflicts.{IsAscending, IsBefore};
+ghost use Rattle.cq_terms.specs.Conflicts.{IsBefore};
+ghost use Rattle.cq_terms.specs.Lists.{IsAscending};
 ghost use Rattle.priority_graph.specs.Priority.{IsOver};
 ghost use Rattle.priority_graph.specs.Split.{has};
 

@@ -8,7 +8,7 @@ use Rattle.std.specs.List.{list_any}
 use Rattle.cq_terms.specs.declared.facts.Fact.{Fact}
 use Rattle.cq_terms.specs.declared.facts.Fact.TheVariants as fact
 use Rattle.cq_meaning.proofs.Members.{Contains-later}
-use Rattle.cq_meaning.specs.Entailment.{IsAscending}
+use Rattle.cq_terms.specs.Lists.{IsAscending}
 use Rattle.fact_index.specs.declared.groups.Entry.{Entry}
 use Rattle.fact_index.specs.declared.place.Place.{Place}
 use Rattle.fact_index.specs.declared.place.Place.TheVariants as place

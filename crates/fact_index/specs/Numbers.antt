@@ -4,7 +4,7 @@ use Rattle.cq_terms.specs.declared.facts.Kind.{Kind}
 use Rattle.cq_terms.specs.declared.facts.Kind.TheVariants as kind
 use Rattle.cq_terms.specs.declared.facts.Fact.{Fact}
 use Rattle.cq_terms.specs.declared.facts.Fact.TheVariants as fact
-use Rattle.cq_meaning.specs.Entailment.{IsAscending}
+use Rattle.cq_terms.specs.Lists.{IsAscending}
 
 -- the fact is of the predicate, which is a concept or a role
 abbrev pub HasPred : Kind → ℕ → Fact → Type 0

@@ -1,7 +1,7 @@
 -- Ascending lists: they are told by their elements.
 use Rattle.std.proofs.Common.{◌≡◌, ℕ, zero, suc, ◌<◌, List, [], ◌∷◌, All, AllPairs, Contains, ◌⊎◌, inl, inr, refl, sym, arith}
 use Rattle.std.proofs.lemmas.List.Elements.{All-contains}
-use Rattle.cq_meaning.specs.Entailment.{IsAscending}
+use Rattle.cq_terms.specs.Lists.{IsAscending}
 use Rattle.cq_meaning.proofs.Members.{Contains-head, Contains-later, Contains-cases, Contains-nil}
 use Rattle.join_eval.specs.Rows.{IsImage}
 

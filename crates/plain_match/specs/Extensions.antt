@@ -6,7 +6,7 @@ use Rattle.cq_terms.specs.declared.query.Term.{Term}
 use Rattle.cq_terms.specs.declared.query.Term.TheVariants as term
 use Rattle.cq_terms.specs.declared.query.QAtom.{QAtom}
 use Rattle.cq_terms.specs.Query.{StandsIn}
-use Rattle.cq_meaning.specs.Entailment.{IsAscending}
+use Rattle.cq_terms.specs.Lists.{IsAscending}
 use Rattle.plain_match.specs.declared.bindings.Binding.{Binding}
 use Rattle.plain_match.specs.declared.row.Row.{Row}
 use Rattle.plain_match.specs.declared.bindings.Walk.{Walk}

@@ -1,7 +1,8 @@
 //! Whether a query has a match with a given tuple and a given image: a search among the facts of the image alone.
 
 ghost use Rattle.std.specs.Prelude.{◌≡◌, ◌↔◌, ℕ, ◌<◌, ◌∷◌, [], length, All, Contains, IfOk, OnOk, IsTrue};
-ghost use Rattle.cq_meaning.specs.Entailment.{HasImage, IsAscending};
+ghost use Rattle.cq_meaning.specs.Entailment.{HasImage};
+ghost use Rattle.cq_terms.specs.Lists.{IsAscending};
 ghost use Rattle.plain_match.specs.Bindings.{AreConsistent, HeadIs, Binds, IsNone};
 ghost use Rattle.plain_match.specs.Extensions.{HasEnding, HasEndingBy, CanEnd, IsSameWalk};
 

@@ -5,7 +5,8 @@ use Rattle.std.proofs.lemmas.List.{length_push, length-map}
 use Rattle.std.proofs.lemmas.List.Elements.{All-nil, All-cons, All-append, All-map, All-weaker}
 use Rattle.std.proofs.lemmas.List.Quantifiers.{all_pairs_push}
 use Rattle.cq_terms.specs.declared.hits.Clash.{Clash}
-use Rattle.cq_terms.specs.Conflicts.{IsAscending, IsBefore, IsOneOrTwo, AreClashes, own_facts, couples}
+use Rattle.cq_terms.specs.Conflicts.{IsBefore, IsOneOrTwo, AreClashes, own_facts, couples}
+use Rattle.cq_terms.specs.Lists.{IsAscending}
 use Rattle.cq_meaning.proofs.Members.{Contains-nil}
 
 abbrev pub clash_of : ℕ × ℕ → Clash

@@ -6,7 +6,7 @@ use Rattle.std.proofs.lemmas.List.{append-nil, take_more, length-take-le, length
 use Rattle.std.proofs.lemmas.List.Elements.{All-head, All-tail, filter_more, Contains-push, Contains-push_cases, Contains-append_left, Contains-get_or}
 use Rattle.std.proofs.lemmas.List.Quantifiers.{all_pairs_push}
 use Rattle.std.proofs.lemmas.List.Folds.{list_any-append}
-use Rattle.cq_terms.specs.Conflicts.{IsAscending}
+use Rattle.cq_terms.specs.Lists.{IsAscending}
 use Rattle.priority_graph.specs.Split.{has}
 use Rattle.priority_graph.specs.Orders.{count_below, AddsEach, AreZeros}
 use Rattle.priority_graph.proofs.SplitLemmas.{has_true, has_not}

@@ -3,7 +3,7 @@ use Rattle.std.proofs.Common.{◌≡◌, ◌<◌, ◌≤◌, ◌+◌, inl, inr, 
 use Rattle.std.proofs.lemmas.Bool.{cases_Bool, true≢false}
 use Rattle.std.proofs.lemmas.List.{take_more, take_all, get_or_default}
 use Rattle.std.proofs.lemmas.List.Elements.{All-contains, Contains-get_or, Contains-append_left, Contains-append_right, Contains-append_cases, Contains-push, Contains-push_cases}
-use Rattle.cq_terms.specs.Conflicts.{IsAscending}
+use Rattle.cq_terms.specs.Lists.{IsAscending}
 use Rattle.priority_graph.specs.Priority.{Priority, Conflict, IsBetter, IsPriority, AreBlockers}
 use Rattle.priority_graph.specs.Cores.{IsFree, IsBlocked, IsCore, ConflictsWith, IsDirect}
 use Rattle.priority_graph.specs.Split.{has}

@@ -19,7 +19,8 @@ use Rattle.priority_graph.specs.Priority.{Priority, Conflict, IsBetter, Ranks, I
 use Rattle.priority_graph.specs.Cores.{IsFree, IsBlocked, IsCore, ConflictsWith}
 use Rattle.priority_graph.specs.Split.{has}
 use Rattle.priority_graph.specs.ChosenRepairs.{IsChosen}
-use Rattle.priority_graph.specs.Inputs.{AreConflictsOf, IsPriorityOf, MeansTheInput, RankAsPareto, AreRivals, DirectTells}
+use Rattle.priority_graph.specs.Inputs.{IsPriorityOf, MeansTheInput, RankAsPareto, AreRivals, DirectTells}
+use Rattle.cq_meaning.specs.ConflictGraphs.{AreConflictsOf}
 use Rattle.priority_graph.proofs.SplitLemmas.{has_true, has_there}
 
 -- the listed couples are the conflicts, in both directions

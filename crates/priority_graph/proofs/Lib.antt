@@ -7,5 +7,4 @@ pub mod InputLemmas
 pub mod LinearLemmas
 pub mod OrderLemmas
 pub mod RestrictLemmas
-pub mod SearchLemmas
 pub mod SplitLemmas

@@ -5,7 +5,7 @@ use Rattle.std.proofs.lemmas.Bool.{cases_eq, cases_lt, cases_Bool, eq-eqb, eqb-t
 use Rattle.std.proofs.lemmas.List.{take_more, take_all, take-append-le, length-append, get_or_append_left, get_or-append_right, get_or_default, get_or-take, length-take, length-take-le}
 use Rattle.std.proofs.lemmas.List.Elements.{All-append, All-contains, Contains-get_or, Contains-append_left, Contains-append_right, Contains-append_cases}
 use Rattle.std.proofs.lemmas.List.Kept.{AllPairs-filter}
-use Rattle.cq_terms.specs.Conflicts.{IsAscending}
+use Rattle.cq_terms.specs.Lists.{IsAscending}
 use Rattle.priority_graph.specs.Split.{has}
 use Rattle.priority_graph.specs.Orders.{count_below, waiting_for, AreLists, AreWaiting, AreZeros, AddsEach, IsOrdered, IsPlaced}
 use Rattle.priority_graph.proofs.SplitLemmas.{has_true, has_there, has_not, Contains-filter_to, Contains-filter_from}

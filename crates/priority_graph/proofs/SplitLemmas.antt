@@ -7,8 +7,9 @@ use Rattle.std.proofs.lemmas.List.Elements.{All-nil, All-head, All-tail, All-app
 use Rattle.std.proofs.lemmas.List.Folds.{list_any_at}
 use Rattle.std.proofs.lemmas.List.Kept.{AllPairs-filter}
 use Rattle.cq_terms.specs.declared.facts.Pair.{Pair}
-use Rattle.cq_terms.specs.declared.flat_lists.Entry.{Entry}
-use Rattle.cq_terms.specs.Conflicts.{ConflictGraph, IsAscending, AreInConflict}
+use Rattle.cq_terms.specs.declared.flat_lists.KeyedNumber.{KeyedNumber}
+use Rattle.cq_terms.specs.Conflicts.{ConflictGraph, AreInConflict}
+use Rattle.cq_terms.specs.Lists.{IsAscending}
 use Rattle.cq_terms.specs.ConflictTables.{conflict_entries, rivals}
 use Rattle.cq_terms.specs.FlatLists.{values_at, HaveKeysBelow, AreGrouped}
 use Rattle.priority_graph.specs.Priority.{IsListed, Ranks}
@@ -69,8 +70,8 @@ length-filter_both p (x ∷ xs) = by (p x) (length-filter_both p xs)
     by false h = omega arith
 
 -- the values of joined entries
-values_at-append : (xs ys : List Entry) (i : ℕ) → values_at (xs ++ ys) i ≡ values_at xs i ++ values_at ys i
-values_at-append xs ys i = ap (map (λ (e : Entry). e.value)) (filter-append (λ (e : Entry). eqb e.key i) xs ys) ∙ map-append (λ (e : Entry). e.value) _ _
+values_at-append : (xs ys : List KeyedNumber) (i : ℕ) → values_at (xs ++ ys) i ≡ values_at xs i ++ values_at ys i
+values_at-append xs ys i = ap (map (λ (e : KeyedNumber). e.value)) (filter-append (λ (e : KeyedNumber). eqb e.key i) xs ys) ∙ map-append (λ (e : KeyedNumber). e.value) _ _
 
 -- the entries of a fact are those of its list, and of no other
 values_at-same : (fact : ℕ) (xs : List ℕ) → values_at (map (λ j. record { key = fact; value = j }) xs) fact ≡ xs
@@ -81,15 +82,15 @@ values_at-other : (fact i : ℕ) (xs : List ℕ) → (fact ≡ i → ⊥) → va
 values_at-other fact i [] other = refl
 values_at-other fact i (x ∷ xs) other = rw (ne_eqb fact i other) (values_at-other fact i xs other)
 
-values_at-past : (bound i : ℕ) (xs : List Entry) → HaveKeysBelow bound xs → bound ≤ i → values_at xs i ≡ []
+values_at-past : (bound i : ℕ) (xs : List KeyedNumber) → HaveKeysBelow bound xs → bound ≤ i → values_at xs i ≡ []
 values_at-past bound i [] h past = refl
 values_at-past bound i (e ∷ xs) h past =
-    let less : e.key < bound = All-head (λ (x : Entry). x.key < bound) e xs h in
+    let less : e.key < bound = All-head (λ (x : KeyedNumber). x.key < bound) e xs h in
     let other : e.key ≡ i → ⊥ = λ s. omega arith in
-    rw (ne_eqb e.key i other) (values_at-past bound i xs (All-tail (λ (x : Entry). x.key < bound) e xs h) past)
+    rw (ne_eqb e.key i other) (values_at-past bound i xs (All-tail (λ (x : KeyedNumber). x.key < bound) e xs h) past)
 
 -- how many entries have keys below a bound
-count_below : (bound : ℕ) (es : List Entry) → length (filter (λ e. ltb e.key (bound + 1)) es) ≡ length (filter (λ e. ltb e.key bound) es) + length (values_at es bound)
+count_below : (bound : ℕ) (es : List KeyedNumber) → length (filter (λ e. ltb e.key (bound + 1)) es) ≡ length (filter (λ e. ltb e.key bound) es) + length (values_at es bound)
 count_below bound [] = omega arith
 count_below bound (e ∷ es) = by (cases_lt e.key bound) (cases_eq e.key bound) (count_below bound es)
   where
@@ -101,7 +102,7 @@ count_below bound (e ∷ es) = by (cases_lt e.key bound) (cases_eq e.key bound) 
     by (inr more) (inl same) h = rw (lt-ltb e.key (bound + 1) (omega arith), le-ltb e.key bound more, eq-eqb e.key bound same) (omega arith)
     by (inr more) (inr other) h = rw (le-ltb e.key (bound + 1) (omega arith), le-ltb e.key bound more, ne_eqb e.key bound other) (omega arith)
 
-length-filter-le : (p : Entry → Bool) (es : List Entry) → length (filter p es) ≤ length es
+length-filter-le : (p : KeyedNumber → Bool) (es : List KeyedNumber) → length (filter p es) ≤ length es
 length-filter-le p [] = omega arith
 length-filter-le p (e ∷ es) = by (p e) (length-filter-le p es)
   where
@@ -123,7 +124,7 @@ sided_none g listed = record {
   rivals_exact = λ i j l. absurd (omega arith);
 }
   where
-    none : (es : List Entry) → filter (λ e. ltb e.key 0) es ≡ []
+    none : (es : List KeyedNumber) → filter (λ e. ltb e.key 0) es ≡ []
     none [] = refl
     none (e ∷ es) = rw (le-ltb e.key 0 (omega arith)) (none es)
 
@@ -136,7 +137,7 @@ pub record HasRivals (g : ConflictGraph) (fact : ℕ) (list : List ℕ) : Type 0
   pub few : length (conflict_entries g.clashes) < 2 ^ 32
 
 -- one more fact
-pub sided_more : (g : ConflictGraph) (listed : List (List ℕ)) (fact : ℕ) (worse blockers : List Entry) (test : ℕ → Bool) (list : List ℕ)
+pub sided_more : (g : ConflictGraph) (listed : List (List ℕ)) (fact : ℕ) (worse blockers : List KeyedNumber) (test : ℕ → Bool) (list : List ℕ)
     → AreSided g listed fact worse blockers → HasRivals g fact list → ((j : ℕ) → j < g.facts → test j ≡ has (get_or listed fact []) j)
     → AreSided g listed (fact + 1) (worse ++ entries_of fact test list) (blockers ++ entries_of fact (λ j. not (test j)) list)
 sided_more g listed fact worse blockers test list h r same = record {
@@ -157,7 +158,7 @@ sided_more g listed fact worse blockers test list h r same = record {
     there : filter (λ j. not (test j)) list ≡ filter (λ j. not (has (get_or listed fact []) j)) (rivals g.clashes fact)
     there = filter_within (λ j. not (test j)) (λ j. not (has (get_or listed fact []) j)) list (λ k d l. ap not (same (get_or list k d) (r.known k d l))) ∙ ap (filter (λ j. not (has (get_or listed fact []) j))) r.are
 
-    at : (old : List Entry) (wanted : ℕ → Bool) (i : ℕ) (p : ℕ → Bool) → HaveKeysBelow fact old → i < fact + 1
+    at : (old : List KeyedNumber) (wanted : ℕ → Bool) (i : ℕ) (p : ℕ → Bool) → HaveKeysBelow fact old → i < fact + 1
         → (i < fact → values_at old i ≡ filter wanted (rivals g.clashes i)) → (fact ≡ i → filter p list ≡ filter wanted (rivals g.clashes i))
         → values_at (old ++ entries_of fact p list) i ≡ filter wanted (rivals g.clashes i)
     at old wanted i p below l before now = by (cases_eq fact i)
@@ -174,11 +175,11 @@ sided_more g listed fact worse blockers test list h r same = record {
             ∙ append-nil (values_at old i)
             ∙ before (omega arith)
 
-    known : (old : List Entry) (p : ℕ → Bool) → HaveKeysBelow fact old → HaveKeysBelow (fact + 1) (old ++ entries_of fact p list)
+    known : (old : List KeyedNumber) (p : ℕ → Bool) → HaveKeysBelow fact old → HaveKeysBelow (fact + 1) (old ++ entries_of fact p list)
     known old p below =
         All-append (λ e. e.key < fact + 1) old (entries_of fact p list)
-        (All-weaker (λ (e : Entry). e.key < fact) (λ (e : Entry). e.key < fact + 1) (λ e l. omega arith) old below)
-        (All-map (λ (e : Entry). e.key < fact + 1) (λ (j : ℕ). record { key = fact; value = j }) (filter p list) (λ k d l. omega arith))
+        (All-weaker (λ (e : KeyedNumber). e.key < fact) (λ (e : KeyedNumber). e.key < fact + 1) (λ e l. omega arith) old below)
+        (All-map (λ (e : KeyedNumber). e.key < fact + 1) (λ (j : ℕ). record { key = fact; value = j }) (filter p list) (λ k d l. omega arith))
 
     count : length (worse ++ entries_of fact test list) + length (blockers ++ entries_of fact (λ j. not (test j)) list) ≡ length (filter (λ e. ltb e.key (fact + 1)) (conflict_entries g.clashes))
     count =
@@ -237,7 +238,7 @@ there_listed (p ∷ pairs) i j (suc k, l, e) = by (eqb p.upper i) (there_listed 
 
 -- the keys of the pairs are facts, and so are the values
 pub pairs_known : (facts : ℕ) (pairs : List Pair) → All (λ p. (p.upper < facts) × (p.lower < facts)) pairs → HaveKeysBelow facts (pair_entries pairs)
-pairs_known facts pairs h = All-map (λ (e : Entry). e.key < facts) (λ (p : Pair). record { key = p.upper; value = p.lower }) pairs (λ k d l. (h k d l).0)
+pairs_known facts pairs h = All-map (λ (e : KeyedNumber). e.key < facts) (λ (p : Pair). record { key = p.upper; value = p.lower }) pairs (λ k d l. (h k d l).0)
 
 pub lists_known : (facts : ℕ) (pairs : List Pair) (lists : List (List ℕ)) → All (λ p. (p.upper < facts) × (p.lower < facts)) pairs → AreGrouped (pair_entries pairs) facts lists
     → All (λ list. All (λ j. j < facts) list) lists
@@ -247,7 +248,7 @@ lists_known facts pairs lists h g = All-from_get_or (λ list. All (λ j. j < fac
     (All-contains (λ (p : Pair). (p.upper < facts) × (p.lower < facts)) pairs _ h there).1))
 
 -- the lists of the sides
-pub parted_from : (pairs : List Pair) (g : ConflictGraph) (listed worse blockers : List (List ℕ)) (worse_entries blocker_entries : List Entry)
+pub parted_from : (pairs : List Pair) (g : ConflictGraph) (listed worse blockers : List (List ℕ)) (worse_entries blocker_entries : List KeyedNumber)
     → AreGrouped (pair_entries pairs) g.facts listed → AreSided g listed g.facts worse_entries blocker_entries
     → AreGrouped worse_entries g.facts worse → AreGrouped blocker_entries g.facts blockers → AreParted pairs g worse blockers
 parted_from pairs g listed worse blockers worse_entries blocker_entries l s w b = record {

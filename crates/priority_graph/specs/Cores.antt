@@ -1,6 +1,6 @@
 -- Repairs and cores, read over the conflicts and the pairs of a priority. A set of facts is a predicate on their numbers.
 use Rattle.std.specs.Prelude.{ℕ, ◌⊎◌, ◌↔◌, List, Contains}
-use Rattle.cq_terms.specs.Conflicts.{IsAscending}
+use Rattle.cq_terms.specs.Lists.{IsAscending}
 use Rattle.priority_graph.specs.Priority.{Priority, Conflict, IsBetter}
 
 -- no fact of the set is self-inconsistent, and no two of it conflict

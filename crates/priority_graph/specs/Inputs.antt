@@ -3,7 +3,8 @@ use Rattle.std.specs.Prelude.{◌≡◌, ℕ, ◌<◌, ◌↔◌, List, length, 
 use Rattle.cq_terms.specs.declared.facts.Repairs.{Repairs}
 use Rattle.cq_terms.specs.declared.facts.Repairs.TheVariants as modes
 use Rattle.cq_terms.specs.Knowledge.{Knowledge}
-use Rattle.cq_terms.specs.Conflicts.{ConflictGraph, own_facts, couples}
+use Rattle.cq_terms.specs.Conflicts.{ConflictGraph}
+use Rattle.cq_meaning.specs.ConflictGraphs.{AreConflictsOf}
 use Rattle.cq_meaning.specs.Conflicts as meaning
 use Rattle.cq_meaning.specs.Conflicts.{In, AreConsistent, AreConflicts, IsSelfInconsistent}
 use Rattle.cq_meaning.specs.Repairs as repairs
@@ -13,11 +14,6 @@ use Rattle.priority_graph.specs.Priority.{Priority, Conflict, IsBetter, Ranks, I
 use Rattle.priority_graph.specs.Cores.{IsFree, IsCore, ConflictsWith, IsDirect}
 use Rattle.priority_graph.specs.Split.{has}
 use Rattle.priority_graph.specs.ChosenRepairs.{IsChosen}
-
--- the conflicts are exactly those of the knowledge base
-pub record AreConflictsOf (kb : Knowledge) (g : ConflictGraph) : Type 0 where
-  pub facts : g.facts ≡ length kb.facts
-  pub exact : AreConflicts kb (own_facts g.clashes) (couples g.clashes)
 
 -- the priority has the facts of the knowledge base, exactly its conflicts, and exactly its relation "better" in the mode
 pub record IsPriorityOf (kb : Knowledge) (mode : Repairs) (p : Priority) : Type 0 where

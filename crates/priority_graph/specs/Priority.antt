@@ -1,7 +1,8 @@
 -- What contracts see of a priority, and the relation "better".
 use Rattle.std.specs.Prelude.{◌≡◌, ℕ, ◌<◌, ◌⊎◌, ◌↔◌, List, All, AllPairs, Contains}
 use Rattle.cq_terms.specs.declared.facts.Pair.{Pair}
-use Rattle.cq_terms.specs.Conflicts.{ConflictGraph, IsAscending, IsBefore, own_facts, couples, AreInConflict}
+use Rattle.cq_terms.specs.Conflicts.{ConflictGraph, IsBefore, own_facts, couples, AreInConflict}
+use Rattle.cq_terms.specs.Lists.{IsAscending}
 use Rattle.priority_graph.specs.Relations.{IsAcyclic}
 
 -- a priority: how many facts there are, the self-inconsistent ones, the pairs in conflict with the lesser fact first, and

@@ -2,8 +2,9 @@
 use Rattle.std.specs.Prelude.{◌≡◌, ℕ, ◌+◌, ◌<◌, ◌^◌, ◌==◌, ◌↔◌, List, [], length, map, filter, Bool, if◌then◌else◌, Contains, All, slice_index, slice_index_or, nat_lt, not}
 use Rattle.std.specs.List.{list_any}
 use Rattle.cq_terms.specs.declared.facts.Pair.{Pair}
-use Rattle.cq_terms.specs.declared.flat_lists.Entry.{Entry}
-use Rattle.cq_terms.specs.Conflicts.{ConflictGraph, IsAscending, AreInConflict}
+use Rattle.cq_terms.specs.declared.flat_lists.KeyedNumber.{KeyedNumber}
+use Rattle.cq_terms.specs.Conflicts.{ConflictGraph, AreInConflict}
+use Rattle.cq_terms.specs.Lists.{IsAscending}
 use Rattle.cq_terms.specs.ConflictTables.{conflict_entries, rivals}
 use Rattle.cq_terms.specs.FlatLists.{values_at, HaveKeysBelow}
 use Rattle.priority_graph.specs.Priority.{Ranks}
@@ -18,15 +19,15 @@ pub record SetsEach (old new places : List ℕ) (value : ℕ) : Type 0 where
   pub exact : (i : ℕ) → i < length old → slice_index new i ≡ (if has places i then value else slice_index old i)
 
 -- the entries of a fact for the numbers that pass
-abbrev pub entries_of : ℕ → (ℕ → Bool) → List ℕ → List Entry
+abbrev pub entries_of : ℕ → (ℕ → Bool) → List ℕ → List KeyedNumber
 entries_of fact test list = map (λ j. record { key = fact; value = j }) (filter test list)
 
 -- an entry for each pair, with the upper fact as the key
-abbrev pub pair_entries : List Pair → List Entry
+abbrev pub pair_entries : List Pair → List KeyedNumber
 pair_entries pairs = map (λ p. record { key = p.upper; value = p.lower }) pairs
 
 -- the entries of the facts below a bound: each fact that conflicts with one, by whether the list of this one has it
-pub record AreSided (g : ConflictGraph) (listed : List (List ℕ)) (bound : ℕ) (worse blockers : List Entry) : Type 0 where
+pub record AreSided (g : ConflictGraph) (listed : List (List ℕ)) (bound : ℕ) (worse blockers : List KeyedNumber) : Type 0 where
   pub worse_exact : (i : ℕ) → i < bound → values_at worse i ≡ filter (has (slice_index_or listed i [])) (rivals g.clashes i)
   pub blockers_exact : (i : ℕ) → i < bound
       → values_at blockers i ≡ filter (λ j. not (has (slice_index_or listed i []) j)) (rivals g.clashes i)

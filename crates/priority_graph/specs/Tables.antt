@@ -1,7 +1,7 @@
 -- The tables of a priority by fact, and the order that goes with them.
 use Rattle.std.specs.Prelude.{◌≡◌, ℕ, suc, ◌<◌, ◌↔◌, List, [], ◌∷◌, ◌++◌, length, map, Contains, slice_index_or}
 use Rattle.cq_terms.specs.declared.facts.Pair.{Pair}
-use Rattle.cq_terms.specs.Conflicts.{IsAscending}
+use Rattle.cq_terms.specs.Lists.{IsAscending}
 use Rattle.priority_graph.specs.Relations.{IsLinear}
 use Rattle.priority_graph.specs.Priority.{Priority, IsBetter, IsPriority, AreBlockers}
 

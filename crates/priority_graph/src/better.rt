@@ -1,7 +1,8 @@
 //! The relation "better" between facts in conflict (Bienvenu and Bourgaux 2022).
 
 ghost use Rattle.std.specs.Prelude.{◌≡◌, ◌<◌, ◌≤◌, ◌^◌, ◌↔◌, ℕ, [], length, slice_index, All, Contains, IsTrue, IfOk, IfErr, OnOk, MatchOption};
-ghost use Rattle.cq_terms.specs.Conflicts.{ConflictGraph, IsAscending};
+ghost use Rattle.cq_terms.specs.Conflicts.{ConflictGraph};
+ghost use Rattle.cq_terms.specs.Lists.{IsAscending};
 ghost use Rattle.priority_graph.specs.Relations.{IsAcyclic, IsLinear};
 ghost use Rattle.priority_graph.specs.Priority.{AreBlockers, Conflict, IsBetter, IsOver, IsPriority, Ranks};
 ghost use Rattle.priority_graph.specs.Refusal.{Refuses};

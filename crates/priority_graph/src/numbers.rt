@@ -1,7 +1,7 @@
 //! Lists of zeros, and writes to lists of numbers.
 
 ghost use Rattle.std.specs.Prelude.{◌≡◌, ◌<◌, ◌^◌, length, replicate, All, Contains, IsTrue, ◌↔◌, ℕ, IfOk};
-ghost use Rattle.cq_terms.specs.Conflicts.{IsAscending};
+ghost use Rattle.cq_terms.specs.Lists.{IsAscending};
 ghost use Rattle.priority_graph.specs.Orders.{AddsEach};
 ghost use Rattle.priority_graph.specs.Split.{SetsEach};
 

@@ -1,7 +1,7 @@
 //! An order of facts in which each stands behind all that are better, by counts of better facts (Kahn 1962).
 
 ghost use Rattle.std.specs.Prelude.{◌≡◌, ◌==◌, ◌<◌, ◌≤◌, ◌^◌, ◌++◌, [], length, filter, slice_index, All, IfOk, OnOk};
-ghost use Rattle.cq_terms.specs.Conflicts.{IsAscending};
+ghost use Rattle.cq_terms.specs.Lists.{IsAscending};
 ghost use Rattle.priority_graph.specs.Orders.{AddsEach, AreLists, AreWaiting, AreZeros, IsPlaced};
 
 use crate::numbers::{add_each, zeros};

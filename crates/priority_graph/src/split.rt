@@ -4,7 +4,7 @@ ghost use Rattle.std.specs.Prelude.{◌≡◌, ◌+◌, ◌<◌, ◌^◌, ◌++�
 ghost use Rattle.priority_graph.specs.Split.{AreParted, AreSided, entries_of, pair_entries};
 
 use crate::numbers::{set_each, zeros};
-use cq_terms::{Conflicts, Entry, FlatLists, NoMemory, Pair};
+use cq_terms::{Conflicts, KeyedNumber, FlatLists, NoMemory, Pair};
 use std::alloc::Global;
 
 /// Two lists for each fact.
@@ -32,12 +32,12 @@ pub(crate) fn split(alloc: Global, pairs: &[Pair], conflicts: &Conflicts) -> Res
 }
 
 /// Answers an entry for each pair, with the upper fact as the key.
-fn listed_entries(alloc: Global, pairs: &[Pair]) -> Result<Vec<Entry>, NoMemory>
+fn listed_entries(alloc: Global, pairs: &[Pair]) -> Result<Vec<KeyedNumber>, NoMemory>
     ensures exact { IfOk result (λ entries. entries.items ≡ pair_entries pairs.now) }
 {
     let mut entries = Vec::with_capacity(alloc, pairs.len())?;
     for pair in pairs {
-        entries.push(Entry {
+        entries.push(KeyedNumber {
             key: pair.upper,
             value: pair.lower,
         })?;
@@ -48,8 +48,8 @@ fn listed_entries(alloc: Global, pairs: &[Pair]) -> Result<Vec<Entry>, NoMemory>
 /// The entries of both lists, by fact.
 #[derive(Drop)]
 struct SideEntries {
-    worse: Vec<Entry>,
-    blockers: Vec<Entry>,
+    worse: Vec<KeyedNumber>,
+    blockers: Vec<KeyedNumber>,
 }
 
 /// Parts the facts that conflict with each fact, in order, by whether the list of the fact has them.
@@ -85,7 +85,7 @@ impl SideEntries {
             ≡ self.old.blockers.items ++ entries_of fact (λ j. not (slice_index marks.now j == fact + 1)) rivals.now) }
     {
         for rival in rivals {
-            let entry = Entry {
+            let entry = KeyedNumber {
                 key: fact,
                 value: *rival,
             };

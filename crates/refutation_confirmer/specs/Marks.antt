@@ -1,6 +1,6 @@
 -- Tables of marks, by number.
 use Rattle.std.specs.Prelude.{◌≡◌, ◌↔◌, ℕ, List, Contains, Bool, true, false, slice_index_or}
-use Rattle.cq_meaning.specs.Entailment.{IsAscending}
+use Rattle.cq_terms.specs.Lists.{IsAscending}
 
 -- the place is marked
 abbrev pub IsMarked : List Bool → ℕ → Type 0

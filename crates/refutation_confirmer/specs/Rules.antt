@@ -12,7 +12,7 @@ use Rattle.report_text.specs.declared.line.Verdict.TheVariants.{Yes, No, Undecid
 use Rattle.cq_meaning.specs.Candidates.{IsWitness}
 use Rattle.cq_meaning.specs.Conflicts.{Only, FactsEntail}
 use Rattle.cq_meaning.specs.Cores.{IsCore}
-use Rattle.cq_meaning.specs.Entailment.{IsAscending}
+use Rattle.cq_terms.specs.Lists.{IsAscending}
 use Rattle.refutation_confirmer.specs.declared.progress.Kind.TheVariants as kind
 use Rattle.refutation_confirmer.specs.declared.progress.Progress.{Progress}
 use Rattle.refutation_confirmer.specs.declared.rule.Rule.{Rule}

@@ -4,7 +4,7 @@ use Rattle.cq_terms.specs.declared.facts.Fact.{Fact}
 use Rattle.cq_terms.specs.declared.facts.Fact.TheVariants as fact
 use Rattle.cq_terms.specs.Knowledge.{Knowledge}
 use Rattle.cq_meaning.specs.ConceptNames.{IsSubsumed, PutsInto}
-use Rattle.cq_meaning.specs.Entailment.{IsAscending}
+use Rattle.cq_terms.specs.Lists.{IsAscending}
 use Rattle.refutation_confirmer.specs.declared.tables.Tables.{Tables}
 use Rattle.refutation_confirmer.specs.Marks.{IsMarked}
 use Rattle.refutation_confirmer.specs.Closure.{IsWithin}

@@ -3,7 +3,7 @@
 ghost use Rattle.std.specs.Prelude.{◌≡◌, ◌↔◌, ◌<◌, ◌≤◌, ◌^◌, ◌⊎◌, ℕ, All, Contains, IfOk, OnOk, IsTrue, length};
 ghost use Rattle.cq_terms.specs.declared.facts.Repairs.TheVariants as repairs;
 ghost use Rattle.cq_meaning.specs.ConceptNames.{IsOfNames, IsOfName};
-ghost use Rattle.cq_meaning.specs.Entailment.{IsAscending};
+ghost use Rattle.cq_terms.specs.Lists.{IsAscending};
 ghost use Rattle.cq_meaning.specs.Cores.{IsCore};
 ghost use Rattle.refutation_confirmer.specs.Marks.{IsMarked};
 ghost use Rattle.refutation_confirmer.specs.Closure.{IsWithin};

@@ -1,7 +1,7 @@
 //! Tables of marks, by number.
 
 ghost use Rattle.std.specs.Prelude.{◌≡◌, ◌↔◌, ◌<◌, ◌≤◌, ◌^◌, ℕ, Contains, IfOk, IsTrue, length, replicate, false};
-ghost use Rattle.cq_meaning.specs.Entailment.{IsAscending};
+ghost use Rattle.cq_terms.specs.Lists.{IsAscending};
 ghost use Rattle.refutation_confirmer.specs.Marks.{IsMarked, AreMarked};
 
 use cq_terms::NoMemory;

@@ -7,7 +7,8 @@ use Rattle.std.proofs.lemmas.List.Elements.{All-contains, Contains-append_left, 
 use Rattle.clause_meaning.proofs.Members.{Contains-map, Contains-map_cases}
 use Rattle.cq_meaning.proofs.Members.{Contains-nil}
 use Rattle.cq_meaning.proofs.Ascending.{ascending_same}
-use Rattle.cq_terms.specs.Conflicts.{ConflictGraph, IsAscending, AreInConflict, AreClashes, couples}
+use Rattle.cq_terms.specs.Conflicts.{ConflictGraph, AreInConflict, AreClashes, couples}
+use Rattle.cq_terms.specs.Lists.{IsAscending}
 use Rattle.cq_terms.proofs.ConflictsLemmas.{couples_below, upward}
 use Rattle.priority_graph.specs.Priority.{Priority, IsOver, Conflict, AreBlockers}
 use Rattle.priority_graph.proofs.SplitLemmas.{Contains-filter_to, Contains-filter_from}

@@ -3,7 +3,8 @@ use Rattle.std.proofs.Common.{◌≡◌, ◌<◌, ◌+◌, ◌*◌, ◌/◌, ◌
 use Rattle.std.proofs.lemmas.List.Elements.{Contains-get_or}
 use Rattle.cq_meaning.proofs.Ascending.{All-of}
 use Rattle.clause_meaning.specs.Literals.{variable_of, HaveDistinctVariables}
-use Rattle.cq_terms.specs.Conflicts.{ConflictGraph, IsAscending, AreInConflict, AreClashes}
+use Rattle.cq_terms.specs.Conflicts.{ConflictGraph, AreInConflict, AreClashes}
+use Rattle.cq_terms.specs.Lists.{IsAscending}
 use Rattle.priority_graph.specs.Priority.{Priority, IsOver}
 use Rattle.repair_encoder.specs.BaseClauses.{present, absent, conflict_clause, Blocks, IsBaseClause, HasForm}
 use Rattle.repair_encoder.specs.Components.{IsClosedUnder}

@@ -11,7 +11,7 @@ use Rattle.std.proofs.lemmas.List.Sorted.{searched}
 use Rattle.clause_meaning.specs.Literals.{variable_of, HaveDistinctVariables}
 use Rattle.repair_encoder.specs.BaseClauses.{absent, present}
 use Rattle.repair_encoder.specs.CauseClauses.{cause_clause}
-use Rattle.cq_terms.specs.Conflicts.{IsAscending}
+use Rattle.cq_terms.specs.Lists.{IsAscending}
 use Rattle.cq_meaning.proofs.Members.{Contains-head, Contains-later, Contains-cases, Contains-nil}
 
 -- an ascending list stays so with a number at its place

@@ -7,7 +7,8 @@ use Rattle.std.proofs.lemmas.List.Elements.{Contains-push_cases, Contains-get_or
 use Rattle.std.proofs.lemmas.List.Quantifiers.{all_pairs_push}
 use Rattle.std.proofs.lemmas.List.Kept.{AllPairs-filter}
 use Rattle.cq_meaning.proofs.Members.{Contains-head, Contains-later}
-use Rattle.cq_terms.specs.Conflicts.{ConflictGraph, IsAscending, AreInConflict, AreClashes}
+use Rattle.cq_terms.specs.Conflicts.{ConflictGraph, AreInConflict, AreClashes}
+use Rattle.cq_terms.specs.Lists.{IsAscending}
 use Rattle.priority_graph.specs.Priority.{Priority, IsOver, Conflict, AreBlockers}
 use Rattle.repair_encoder.specs.BaseClauses.{present, absent, conflict_clause, conflict_clauses, IsBlockingClause, IsFactClause}
 use Rattle.repair_encoder.specs.Components.{IsClosedUnder}

@@ -16,7 +16,8 @@ use Rattle.cq_meaning.proofs.Members.{Contains-head, Contains-cases, Contains-ni
 use Rattle.cq_terms.specs.Conflicts.{ConflictGraph, AreInConflict}
 use Rattle.priority_graph.proofs.CountLemmas.{distinct_length}
 use Rattle.repair_encoder.specs.Components.{IsClosedUnder, IsReachedIn, IsReached, IsComponent}
-use Rattle.repair_encoder.specs.Walks.{AreSeen, IsSorted, Visits}
+use Rattle.repair_encoder.specs.Walks.{AreSeen, Visits}
+use Rattle.cq_terms.specs.Lists.{IsSorted}
 
 -- a fact that was seen before
 pub seen_before : (seen : List Bool) (reached : List ℕ) (fact : ℕ) → AreSeen seen reached → fact < length seen → get_or seen fact false ≡ true → Visits reached reached (fact ∷ [])

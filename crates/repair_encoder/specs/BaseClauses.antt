@@ -2,7 +2,7 @@
 -- 2022). A fact is a variable. A set of facts, or of clauses, is a predicate.
 use Rattle.std.specs.Prelude.{◌≡◌, ℕ, ◌+◌, ◌*◌, ◌<◌, ◌⊎◌, ◌↔◌, List, [], ◌∷◌, Contains, map, filter, nat_lt, length, All}
 use Rattle.clause_meaning.specs.Literals.{variable_of, HaveDistinctVariables}
-use Rattle.cq_terms.specs.Conflicts.{IsAscending}
+use Rattle.cq_terms.specs.Lists.{IsAscending}
 use Rattle.priority_graph.specs.Priority.{Priority, Conflict, IsBetter}
 
 -- the literal that says that the fact is present

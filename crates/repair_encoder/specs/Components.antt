@@ -1,6 +1,7 @@
 -- Sets of facts that are closed under conflict, and the component of a fact: what a chain of conflicts reaches from it.
 use Rattle.std.specs.Prelude.{◌≡◌, ℕ, zero, suc, ◌↔◌, List, Contains}
-use Rattle.cq_terms.specs.Conflicts.{ConflictGraph, AreInConflict, IsAscending}
+use Rattle.cq_terms.specs.Conflicts.{ConflictGraph, AreInConflict}
+use Rattle.cq_terms.specs.Lists.{IsAscending}
 
 -- what is related to a member of the set is in the set
 abbrev pub IsClosedUnder : (ℕ → ℕ → Type 0) → (ℕ → Type 0) → Type 0

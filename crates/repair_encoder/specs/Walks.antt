@@ -1,6 +1,5 @@
 -- The walk that finds a component: which facts it has seen, and what one step adds.
 use Rattle.std.specs.Prelude.{◌≡◌, ◌≢◌, ℕ, ◌<◌, ◌↔◌, ◌++◌, List, length, All, AllPairs, Contains, Bool, IsTrue, false, slice_index_or}
-use Rattle.cq_terms.specs.Conflicts.{IsAscending}
 
 -- the marked facts are those of the list, each once
 pub record AreSeen (seen : List Bool) (reached : List ℕ) : Type 0 where
@@ -14,8 +13,3 @@ pub record Visits (old new facts : List ℕ) : Type 0 where
   pub grown : new ≡ old ++ more
   pub of : (i : ℕ) → Contains more i → Contains facts i
   pub all : (i : ℕ) → Contains facts i → Contains new i
-
--- the same numbers in ascending order
-pub record IsSorted (numbers sorted : List ℕ) : Type 0 where
-  pub ascending : IsAscending sorted
-  pub same : (i : ℕ) → Contains sorted i ↔ Contains numbers i

@@ -1,7 +1,8 @@
 //! The base clauses: one for each conflict, and one for each fact.
 
 ghost use Rattle.std.specs.Prelude.{◌≡◌, ◌≢◌, ◌↔◌, ◌<◌, ◌≤◌, ◌^◌, ◌++◌, ◌∷◌, [], ℕ, List, IfOk, OnOk, All, AllPairs, Contains, length, insert};
-ghost use Rattle.cq_terms.specs.Conflicts.{AreClashes, AreInConflict, IsAscending};
+ghost use Rattle.cq_terms.specs.Conflicts.{AreClashes, AreInConflict};
+ghost use Rattle.cq_terms.specs.Lists.{IsAscending};
 ghost use Rattle.priority_graph.specs.Priority.{IsOver};
 ghost use Rattle.repair_encoder.specs.BaseClauses.{HasForm, IsBaseClause, IsFactClause, SaysOneIsPresent, absent, conflict_clause, conflict_clauses};
 ghost use Rattle.repair_encoder.specs.Components.{IsClosedUnder};

@@ -3,7 +3,8 @@
 ghost use Rattle.std.specs.Prelude.{◌≡◌, ◌≢◌, ◌<◌, ◌∷◌, [], length, All, AllPairs, Contains, IfOk, OnOk, false, replicate, slice_index};
 ghost use Rattle.cq_terms.specs.Conflicts.{AreInConflict};
 ghost use Rattle.repair_encoder.specs.Components.{IsClosedUnder, IsComponent};
-ghost use Rattle.repair_encoder.specs.Walks.{AreSeen, IsSorted, Visits};
+ghost use Rattle.repair_encoder.specs.Walks.{AreSeen, Visits};
+ghost use Rattle.cq_terms.specs.Lists.{IsSorted};
 
 use cq_terms::{Conflicts, Ids, NoMemory};
 use std::alloc::Global;

@@ -1,7 +1,7 @@
 //! Facts whose clause a lesser fact shares.
 
 ghost use Rattle.std.specs.Prelude.{◌≡◌, ◌⊎◌, ◌↔◌, ◌<◌, ℕ, Contains, IsTrue};
-ghost use Rattle.cq_terms.specs.Conflicts.{IsAscending};
+ghost use Rattle.cq_terms.specs.Lists.{IsAscending};
 ghost use Rattle.repair_encoder.specs.Twins.{AreTwins, HasLesserTwin, SpeaksOf};
 
 use priority_graph::Better;

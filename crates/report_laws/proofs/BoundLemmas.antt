@@ -11,7 +11,8 @@ use Rattle.cq_meaning.proofs.Extension.{Conflict-sym}
 use Rattle.cq_meaning.proofs.Listed.{all_or_some, append_left, append_right, append_cases, member, removed}
 use Rattle.cq_meaning.proofs.Members.{Contains-head, Contains-later, Contains-cases, Contains-nil}
 use Rattle.priority_graph.specs.Priority.{Priority}
-use Rattle.priority_graph.specs.Inputs.{AreConflictsOf, IsPriorityOf}
+use Rattle.priority_graph.specs.Inputs.{IsPriorityOf}
+use Rattle.cq_meaning.specs.ConflictGraphs.{AreConflictsOf}
 use Rattle.priority_graph.proofs.InputLemmas.{empty_is_all}
 use Rattle.repair_encoder.specs.Components.{IsReachedIn}
 use Rattle.report_rules.specs.ConflictLists.{IsLinkedIn, IsInComponents, IsInConflict, AreConflictFacts}

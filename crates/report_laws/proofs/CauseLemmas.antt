@@ -5,7 +5,7 @@ use Rattle.std.proofs.lemmas.List.Elements.{All-contains}
 use Rattle.std.proofs.lemmas.Option.{slice_get_within}
 use Rattle.cq_terms.specs.Knowledge.{Knowledge}
 use Rattle.cq_terms.specs.Query.{Query}
-use Rattle.cq_meaning.specs.Entailment.{IsAscending}
+use Rattle.cq_terms.specs.Lists.{IsAscending}
 use Rattle.cq_meaning.specs.Conflicts.{AreConsistent, FactsEntail, facts_in}
 use Rattle.cq_meaning.specs.Candidates.{Without, IsCause, AreCauses}
 use Rattle.cq_meaning.proofs.Single.{Entails-mono, FactsEntail-mono}

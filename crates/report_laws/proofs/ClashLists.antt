@@ -6,7 +6,7 @@ use Rattle.cq_terms.specs.declared.hits.Clash.{Clash}
 use Rattle.cq_terms.specs.Conflicts.{ConflictGraph, AreClashes, IsOneOrTwo, single, couple, own_facts, couples}
 use Rattle.cq_terms.specs.Knowledge.{Knowledge}
 use Rattle.cq_meaning.proofs.Members.{Contains-head, Contains-later}
-use Rattle.priority_graph.specs.Inputs.{AreConflictsOf}
+use Rattle.cq_meaning.specs.ConflictGraphs.{AreConflictsOf}
 use Rattle.report_rules.specs.ConflictLists.{conflict_lists, AreConflictLists}
 use Rattle.report_laws.specs.ConflictLaws.{facts_told}
 use Rattle.report_laws.proofs.ListLemmas.{AllPairs-head, AllPairs-tail}

@@ -17,7 +17,8 @@ use Rattle.cq_terms.specs.Conflicts.{single, couple}
 use Rattle.cq_terms.specs.Query.{Query}
 use Rattle.cq_meaning.specs.Conflicts.{FactsEntail, AreConsistent, Conflict, AreConflicts}
 use Rattle.cq_meaning.specs.Candidates.{Every, AreCandidates, IsCause, AreCauses}
-use Rattle.cq_meaning.specs.Entailment.{HasImage, IsAscending}
+use Rattle.cq_meaning.specs.Entailment.{HasImage}
+use Rattle.cq_terms.specs.Lists.{IsAscending}
 use Rattle.cq_meaning.specs.Rewriting.{IsClosure, IsSupport, disjointness_query}
 use Rattle.cq_meaning.specs.RewritingLaws.{IsForbidden}
 use Rattle.cq_meaning.proofs.Ascending.{All-of}

@@ -19,7 +19,8 @@ use Rattle.cq_terms.specs.Query.{Query}
 use Rattle.cq_meaning.specs.Chase.{Named}
 use Rattle.cq_meaning.specs.Conflicts.{FactsEntail}
 use Rattle.cq_meaning.specs.Candidates.{AreCandidates, AreCauses, IsCause, Every, Without}
-use Rattle.cq_meaning.specs.Entailment.{HasImage, IsAscending}
+use Rattle.cq_meaning.specs.Entailment.{HasImage}
+use Rattle.cq_terms.specs.Lists.{IsAscending}
 use Rattle.cq_meaning.specs.Rewriting.{IsAxiomStep, IsUnified, IsSuccessor}
 use Rattle.cq_meaning.proofs.Members.{Contains-head, Contains-later, Contains-cases, Contains-nil, Contains-one, Contains-slice_get}
 use Rattle.cq_meaning.proofs.NameConflicts.{name_entailed}

@@ -5,7 +5,7 @@ use Rattle.std.proofs.lemmas.List.Kept.{AllPairs-cons}
 use Rattle.cq_terms.specs.declared.facts.Repairs.TheVariants as mode
 use Rattle.cq_meaning.specs.Conflicts.{Conflict}
 use Rattle.cq_meaning.specs.Repairs.{IsBetter}
-use Rattle.cq_meaning.specs.Entailment.{IsAscending}
+use Rattle.cq_terms.specs.Lists.{IsAscending}
 use Rattle.cq_meaning.proofs.Extension.{Conflict-sym}
 use Rattle.cq_meaning.proofs.Members.{Contains-head}
 use Rattle.clause_meaning.specs.Literals.{HaveDistinctVariables, variable_of, opposite_of}

@@ -5,7 +5,7 @@ use Rattle.std.proofs.lemmas.List.Elements.{Contains-append_left, Contains-appen
 use Rattle.cq_terms.specs.declared.facts.Pair.{Pair}
 use Rattle.cq_terms.specs.declared.facts.Repairs.{Repairs}
 use Rattle.cq_terms.specs.Knowledge.{Knowledge}
-use Rattle.cq_meaning.specs.Entailment.{IsAscending}
+use Rattle.cq_terms.specs.Lists.{IsAscending}
 use Rattle.cq_meaning.proofs.Ascending.{with_property}
 use Rattle.cq_meaning.proofs.ByLists.{Conflict-within}
 use Rattle.cq_meaning.proofs.Extension.{Conflict-sym}

@@ -6,7 +6,8 @@ use Rattle.cq_terms.specs.Conflicts.{ConflictGraph, own_facts}
 use Rattle.cq_terms.specs.Knowledge.{Knowledge}
 use Rattle.cq_meaning.specs.Conflicts.{AreConflicts}
 use Rattle.priority_graph.specs.Priority.{Priority, IsPriority, IsOver}
-use Rattle.priority_graph.specs.Inputs.{IsPriorityOf, AreConflictsOf}
+use Rattle.priority_graph.specs.Inputs.{IsPriorityOf}
+use Rattle.cq_meaning.specs.ConflictGraphs.{AreConflictsOf}
 use Rattle.report_text.specs.declared.line.Line.{Line}
 use Rattle.report_text.specs.declared.line.Question.{Question}
 use Rattle.report_text.specs.declared.line.Question.TheVariants as question

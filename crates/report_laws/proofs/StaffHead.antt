@@ -8,7 +8,8 @@ use Rattle.cq_terms.specs.declared.query.Term.TheVariants.{Var}
 use Rattle.cq_terms.specs.declared.query.QAtom.TheVariants as atom
 use Rattle.cq_terms.specs.Query.{Query}
 use Rattle.cq_meaning.specs.Chase.{Named}
-use Rattle.cq_meaning.specs.Entailment.{HasImage, IsAscending}
+use Rattle.cq_meaning.specs.Entailment.{HasImage}
+use Rattle.cq_terms.specs.Lists.{IsAscending}
 use Rattle.cq_meaning.specs.Examples.{prof_is_staff, student_is_not_staff, staff_register, staff_query}
 use Rattle.cq_meaning.proofs.Members.{Contains-head, Contains-later, Contains-cases}
 use Rattle.report_text.specs.declared.line.Origin.TheVariants as origin

@@ -10,7 +10,7 @@ use Rattle.cq_meaning.specs.Chase.{Node, Named, Atom, ConceptAtom, atom_of, InSt
 use Rattle.cq_meaning.specs.Conflicts.{facts_in, Only, Both, In, AreConsistent, FactsEntail, Conflict, AreConflicts}
 use Rattle.cq_meaning.specs.Cores.{IsCore}
 use Rattle.cq_meaning.specs.Repairs.{IsBetter}
-use Rattle.cq_meaning.specs.Entailment.{IsAscending}
+use Rattle.cq_terms.specs.Lists.{IsAscending}
 use Rattle.cq_meaning.specs.Candidates.{AreCandidates, AreCauses, IsCause, Every, Without}
 use Rattle.cq_meaning.specs.Examples.{prof_is_staff, student_is_not_staff, staff_register, staff_query}
 use Rattle.cq_meaning.proofs.Members.{Contains-head, Contains-later, Contains-nil, Contains-one}

@@ -7,7 +7,7 @@ use Rattle.cq_terms.specs.Knowledge.{Knowledge}
 use Rattle.cq_terms.specs.Query.{Query}
 use Rattle.cq_meaning.specs.Conflicts.{Conflict}
 use Rattle.cq_meaning.specs.Candidates.{AreCandidates, AreCauses}
-use Rattle.cq_meaning.specs.Entailment.{IsAscending}
+use Rattle.cq_terms.specs.Lists.{IsAscending}
 use Rattle.cq_meaning.specs.NormalForm.{normal}
 use Rattle.cq_meaning.specs.Rewriting.{disjointness_query}
 use Rattle.clause_meaning.specs.Literals.{HaveDistinctVariables, variable_of, opposite_of}

@@ -3,8 +3,8 @@ use Rattle.std.specs.Prelude.{◌≤◌, ◌^◌, ◌↔◌, ◌<◌, ℕ, suc, 
 use Rattle.cq_terms.specs.Conflicts.{ConflictGraph, AreInConflict}
 use Rattle.cq_terms.specs.Knowledge.{Knowledge}
 use Rattle.cq_meaning.specs.Conflicts.{Conflict}
-use Rattle.cq_meaning.specs.Entailment.{IsAscending}
-use Rattle.priority_graph.specs.Inputs.{AreConflictsOf}
+use Rattle.cq_terms.specs.Lists.{IsAscending}
+use Rattle.cq_meaning.specs.ConflictGraphs.{AreConflictsOf}
 use Rattle.repair_encoder.specs.Components.{IsReached, IsReachedIn}
 use Rattle.report_rules.specs.ConflictLists.{IsLinkedIn, AreConflictFacts}
 use Rattle.report_laws.specs.Scopes.{AreComponents}

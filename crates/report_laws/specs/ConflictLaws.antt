@@ -5,7 +5,8 @@ use Rattle.cq_terms.specs.Conflicts.{ConflictGraph, AreClashes}
 use Rattle.cq_terms.specs.Knowledge.{Knowledge}
 use Rattle.cq_terms.specs.declared.facts.Repairs.{Repairs}
 use Rattle.priority_graph.specs.Priority.{Priority, IsOver}
-use Rattle.priority_graph.specs.Inputs.{AreConflictsOf, IsPriorityOf}
+use Rattle.priority_graph.specs.Inputs.{IsPriorityOf}
+use Rattle.cq_meaning.specs.ConflictGraphs.{AreConflictsOf}
 use Rattle.report_rules.specs.ConflictLists.{AreConflictLists}
 
 -- the facts of each clash, in their order

@@ -4,7 +4,7 @@ use Rattle.cq_terms.specs.declared.facts.Repairs.{Repairs}
 use Rattle.cq_terms.specs.Knowledge.{Knowledge}
 use Rattle.cq_meaning.specs.Conflicts.{Only, AreConsistent, IsSelfInconsistent}
 use Rattle.cq_meaning.specs.Repairs.{IsAcyclic}
-use Rattle.cq_meaning.specs.Entailment.{IsAscending}
+use Rattle.cq_terms.specs.Lists.{IsAscending}
 use Rattle.clause_meaning.specs.Literals.{variable_of}
 use Rattle.clause_meaning.specs.Assignments.{IsInside, IsOutside, Inside, Separates}
 use Rattle.clause_meaning.specs.Learning.{IsUndecided}

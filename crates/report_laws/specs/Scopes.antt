@@ -5,7 +5,7 @@ use Rattle.std.specs.List.{list_any}
 use Rattle.cq_terms.specs.declared.facts.Repairs.{Repairs}
 use Rattle.cq_terms.specs.Knowledge.{Knowledge}
 use Rattle.cq_meaning.specs.Conflicts.{Conflict}
-use Rattle.cq_meaning.specs.Entailment.{IsAscending}
+use Rattle.cq_terms.specs.Lists.{IsAscending}
 use Rattle.clause_meaning.specs.Literals.{variable_of, HaveDistinctVariables}
 use Rattle.clause_meaning.specs.Assignments.{IsInside, IsOutside, Inside}
 use Rattle.clause_meaning.specs.Refutation.{Refutes, Follows, ContainsOneOf, IsWithin}

@@ -2,7 +2,7 @@
 use Rattle.std.specs.Prelude.{◌≡◌, ℕ, zero, suc, ◌↔◌, List, [], ◌∷◌, ◌++◌, map, Contains}
 use Rattle.cq_terms.specs.Knowledge.{Knowledge}
 use Rattle.cq_meaning.specs.Conflicts.{Conflict, AreConflicts}
-use Rattle.cq_meaning.specs.Entailment.{IsAscending}
+use Rattle.cq_terms.specs.Lists.{IsAscending}
 
 -- the self-inconsistent facts and then the pairs in conflict, each as the list of its facts
 abbrev pub conflict_lists : List ℕ → List (ℕ × ℕ) → List (List ℕ)

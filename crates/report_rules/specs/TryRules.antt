@@ -4,7 +4,7 @@ use Rattle.cq_terms.specs.declared.facts.Repairs.{Repairs}
 use Rattle.cq_terms.specs.Knowledge.{Knowledge}
 use Rattle.cq_meaning.specs.Conflicts.{Conflict}
 use Rattle.cq_meaning.specs.Cores.{IsCore}
-use Rattle.cq_meaning.specs.Entailment.{IsAscending}
+use Rattle.cq_terms.specs.Lists.{IsAscending}
 use Rattle.clause_meaning.specs.Literals.{HaveDistinctVariables}
 use Rattle.clause_meaning.specs.Refutation.{Refutes, Follows, ContainsOneOf, IsWithin}
 use Rattle.priority_graph.specs.Split.{has}

@@ -21,7 +21,7 @@ use Rattle.report_text.specs.Lines.{IsWellFormed}
 use Rattle.report_text.proofs.Plain.{IsPlain}
 use Rattle.report_text.proofs.FieldFacts.{if_below-lt, below-id_of, below-id_in}
 use Rattle.report_text.proofs.AtomFacts.{items_depth-terms, items_depth-atoms, ArePlain-terms, ArePlain-atoms, each_of-terms, each_of-atoms, All-terms_at, All-atoms_at}
-use Rattle.report_text.proofs.SafeFacts.{if_safe-query, IsSafe-if_safe}
+use Rattle.cq_terms.proofs.SafeFacts.{if_safe-query, IsSafe-if_safe}
 
 -- the numbers of the step are in their range
 abbrev IsStepInRange : Option (ℕ × Move) → Type 0

@@ -15,6 +15,5 @@ pub mod LineFacts
 pub mod NoLineFeed
 pub mod PieceFacts
 pub mod Plain
-pub mod SafeFacts
 pub mod ToldFacts
 pub mod TryFacts

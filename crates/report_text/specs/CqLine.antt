@@ -14,7 +14,7 @@ use Rattle.report_text.specs.declared.line.Origin.{Origin}
 use Rattle.report_text.specs.declared.line.Origin.TheVariants as origin
 use Rattle.report_text.specs.Fields.{number_data, is_null, id_of, id_in, word_in}
 use Rattle.report_text.specs.Atoms.{IsTermInRange, IsAtomInRange, terms_data, atoms_data, terms_at, atoms_at}
-use Rattle.report_text.specs.SafeQuery.{if_safe}
+use Rattle.cq_terms.specs.SafeQuery.{if_safe}
 
 -- the number of the axiom is in its range
 abbrev pub IsOriginInRange : Origin → Type 0

@@ -14,5 +14,4 @@ pub mod LineBytes
 pub mod Lines
 pub mod Pieces
 pub mod Reports
-pub mod SafeQuery
 pub mod TryLine

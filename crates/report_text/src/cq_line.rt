@@ -7,7 +7,6 @@ ghost use Rattle.report_text.specs.CqLine.{origin_data, move_data, move_data_of,
 
 use crate::atoms::{atoms_at, put_atoms, put_terms, terms_at};
 use crate::fields::{id_in, id_of, put_id, word_in};
-use crate::safe_query::if_safe;
 use crate::{Line, Origin};
 use cq_steps::Move;
 use cq_terms::{Cq, NoMemory};
@@ -124,7 +123,7 @@ fn query_at(alloc: Global, value: &Value) -> Result<Option<Cq>, NoMemory>
     let Some(body) = atoms_at(alloc, value, "body")? else {
         return Ok(None);
     };
-    Ok(if_safe(head, body))
+    Ok(Cq::checked(head, body))
 }
 
 fn origin_of(value: &Value) -> Option<Origin>

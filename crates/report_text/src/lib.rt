@@ -22,7 +22,6 @@ mod pieces;
 mod printing;
 mod reading;
 mod report;
-mod safe_query;
 #[cfg(test)]
 mod tests;
 mod try_line;

@@ -1,7 +1,7 @@
 //! The core of given facts with all that conflict with them, where it is one.
 
 ghost use Rattle.std.specs.Prelude.{◌≡◌, ◌<◌, ◌↔◌, ◌⊎◌, ℕ, None, length, All, Contains, IsTrue, IfOk, IfSome};
-ghost use Rattle.cq_terms.specs.Conflicts.{IsAscending};
+ghost use Rattle.cq_terms.specs.Lists.{IsAscending};
 ghost use Rattle.priority_graph.specs.Priority.{IsBetter, Conflict};
 ghost use Rattle.priority_graph.specs.Cores.{ConflictsWith, IsBlocked, IsCore, IsDirect, IsFree};
 

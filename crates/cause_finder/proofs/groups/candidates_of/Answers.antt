@@ -1,5 +1,5 @@
 use Rattle.std.proofs.Common.{◌<◌, ◌+◌, All}
-use Rattle.cq_terms.specs.Conflicts.{IsAscending}
+use Rattle.cq_terms.specs.Lists.{IsAscending}
 use Rattle.cause_finder.proofs.GroupLemmas.{group_done, all_of_group, group_sorted}
 use Rattle.cause_finder.proofs.groups.candidates_of.Goals as goal
 

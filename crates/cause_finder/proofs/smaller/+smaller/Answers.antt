@@ -1,5 +1,5 @@
 use Rattle.std.proofs.Common.{◌<◌, ℕ, All, length, List, inl, inr, refl, sym, subst, arith}
-use Rattle.cq_terms.specs.Conflicts.{IsAscending}
+use Rattle.cq_terms.specs.Lists.{IsAscending}
 use Rattle.cause_finder.specs.declared.support.Support.{Support}
 use Rattle.cause_finder.specs.Smaller.{AreNarrowed, HasPartFrom}
 use Rattle.cause_finder.proofs.PartsOfLists.{rest_ascends}

@@ -1,6 +1,6 @@
 use Rattle.std.proofs.Common.{◌+◌, take, [], sym, subst, ◌∙◌, true≢false}
 use Rattle.std.proofs.lemmas.List.{take_all}
-use Rattle.cq_meaning.specs.Entailment.{IsAscending}
+use Rattle.cq_terms.specs.Lists.{IsAscending}
 use Rattle.concept_answers.proofs.ListLemmas.{read_at}
 use Rattle.concept_answers.proofs.ConflictLemmas.{AreRivalsAmong, rivals_none, rivals_skip, rivals_push, conflicts_found, number_within}
 use Rattle.concept_answers.proofs.conflicts.conflicts_of.Goals as goal

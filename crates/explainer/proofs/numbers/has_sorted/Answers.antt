@@ -1,4 +1,4 @@
-use Rattle.priority_graph.proofs.SearchLemmas.{found}
+use Rattle.cq_terms.proofs.SearchLemmas.{found}
 use Rattle.explainer.proofs.numbers.has_sorted.Goals as goal
 
 pub returns : goal.returns

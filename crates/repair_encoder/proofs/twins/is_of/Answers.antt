@@ -1,5 +1,5 @@
 use Rattle.std.proofs.Common.{inl, inr}
-use Rattle.priority_graph.proofs.SearchLemmas.{found}
+use Rattle.cq_terms.proofs.SearchLemmas.{found}
 use Rattle.repair_encoder.proofs.twins.is_of.Goals as goal
 
 pub returns : goal.returns

@@ -1,4 +1,4 @@
--- The test whether a head and a body are those of a query, which reading makes.
+-- The test whether a head and a body are those of a query.
 use Rattle.std.specs.Prelude.{ℕ, ◌==◌, ◌||◌, List, length, Bool, true, false, Option, Some, None, if◌then◌else◌}
 use Rattle.std.specs.List.{list_all, list_any}
 use Rattle.cq_terms.specs.declared.query.Term.{Term}

@@ -3,22 +3,12 @@
 ghost use Rattle.std.specs.Prelude.{◌≡◌, IsTrue};
 ghost use Rattle.std.specs.List.{list_all, list_any};
 ghost use Rattle.cq_terms.specs.Query.{IsSafe};
-ghost use Rattle.report_text.specs.SafeQuery.{is_variable, stands_in, is_meant, is_safe, if_safe};
+ghost use Rattle.cq_terms.specs.SafeQuery.{is_variable, stands_in, is_meant, is_safe};
 
-use cq_terms::{Cq, QAtom, Term};
+use crate::query::{QAtom, Term};
 
-/// The query of a head and a body, where they are those of one.
-pub fn if_safe(head: Vec<Term>, body: Vec<QAtom>) -> Option<Cq>
-    ensures exact { result ≡ if_safe head.items body.items }
-{
-    if is_safe(head.as_slice(), body.as_slice()) {
-        Some(Cq::new(head, body))
-    } else {
-        None
-    }
-}
-
-fn is_safe(head: &[Term], body: &[QAtom]) -> bool
+/// Whether the two are the head and the body of a query.
+pub(crate) fn is_safe(head: &[Term], body: &[QAtom]) -> bool
     ensures exact { result ≡ is_safe head.now body.now }
     ensures safe { IsTrue result → IsSafe (record { head = head.now; body = body.now }) }
 {

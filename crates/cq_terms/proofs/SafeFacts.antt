@@ -11,7 +11,7 @@ use Rattle.cq_terms.specs.declared.query.Term.TheVariants as term
 use Rattle.cq_terms.specs.declared.query.QAtom.{QAtom}
 use Rattle.cq_terms.specs.declared.query.QAtom.TheVariants as atom
 use Rattle.cq_terms.specs.Query.{Query, StandsIn, IsMeant, IsSafe}
-use Rattle.report_text.specs.SafeQuery.{is_variable, stands_in, is_meant, is_safe, if_safe}
+use Rattle.cq_terms.specs.SafeQuery.{is_variable, stands_in, is_meant, is_safe, if_safe}
 
 -- the term is the variable
 is_variable-sound : (l : ℕ) (t : Term) → is_variable l t ≡ true → t ≡ term.Var l

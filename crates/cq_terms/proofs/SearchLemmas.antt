@@ -6,7 +6,7 @@ use Rattle.std.specs.Ordering.{nat_cmp}
 use Rattle.std.proofs.lemmas.Bool.{cases_lt, cases_eq, true≢false}
 use Rattle.std.proofs.lemmas.List.{get_or_default}
 use Rattle.std.proofs.lemmas.List.Sorted.{searched}
-use Rattle.cq_terms.specs.Conflicts.{IsAscending}
+use Rattle.cq_terms.specs.Lists.{IsAscending}
 
 rising : (xs : List ℕ) → IsAscending xs → (i j : ℕ) → i ≤ j → j < length xs → get_or xs i 0 ≤ get_or xs j 0
 rising xs up i j le l = elim (cases_eq i j) [ inl e ↦ omega (arith, ap (λ (n : ℕ). get_or xs n 0) e) | inr n ↦ let less = up i j 0 (omega arith) l in omega arith ]
