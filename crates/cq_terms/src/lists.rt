@@ -36,9 +36,8 @@ impl Ids {
     pub fn from_slice(alloc: Global, numbers: &[u32]) -> Result<Self, NoMemory>
         ensures exact { IfOk result (λ ids. ids ≡ numbers.now) }
     {
-        Ok(Ids {
-            items: SmallVec::from_slice(alloc, numbers)?,
-        })
+        let items = SmallVec::from_slice(alloc, numbers)?;
+        Ok(Ids { items })
     }
 
     /// The ascending list of these numbers, each once.
