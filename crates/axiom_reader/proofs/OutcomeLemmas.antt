@@ -1,12 +1,14 @@
 -- Each line gives one thing, and each text comes to one thing.
-use Rattle.std.proofs.Common.{◌≡◌, ◌≢◌, ℕ, ◌+◌, ◌≤◌, ◌<◌, ◌⊎◌, inl, inr, Bool, true, false, cond, eqb, List, [], ◌∷◌, ◌++◌, length, Option, Some, None, refl, sym, ap, ◌∙◌, subst, arith}
+use Rattle.std.proofs.Common.{◌≡◌, ◌≢◌, ℕ, ◌+◌, ◌≤◌, ◌<◌, ◌⊎◌, inl, inr, Bool, true, false, cond, eqb, List, [], ◌∷◌, ◌++◌, length, Option, Some, None, refl}
+use Rattle.std.proofs.Common.{sym, ap, ◌∙◌, subst, arith}
 use Rattle.std.specs.Str.{IsUtf8, is_utf8}
 use Rattle.std.proofs.lemmas.Str.{IsUtf8-from_is_utf8, is_utf8-from_IsUtf8}
 use Rattle.std.proofs.lemmas.Bool.Decides.{Decides-eqb}
 use Rattle.axiom_reader.specs.Axioms.{NamedAxiom, Says}
 use Rattle.axiom_reader.specs.Lines.{is_silent, lines_of, words_of}
 use Rattle.axiom_reader.specs.Parts.{axiom_at}
-use Rattle.axiom_reader.specs.Reading.{LineOutcome, nothing, one, not_utf8, bad, Gives, GiveAxioms, Fault, line_not_utf8, bad_line, too_many, HasFault, TextOutcome, reads, refuses, ComesTo, most_axioms}
+use Rattle.axiom_reader.specs.Reading.{LineOutcome, nothing, one, not_utf8, bad, Gives, GiveAxioms, Fault, line_not_utf8, bad_line, too_many, HasFault}
+use Rattle.axiom_reader.specs.Reading.{TextOutcome, reads, refuses, ComesTo, most_axioms}
 use Rattle.axiom_reader.proofs.TestLemmas.{untrue}
 use Rattle.axiom_reader.proofs.ParseLemmas.{axiom_complete, axiom_sound}
 
@@ -89,7 +91,8 @@ come_one : (count number : ℕ) (line : List ℕ) (lines : List (List ℕ)) (nam
     → count < most_axioms → come count number (line ∷ lines) ≡ with_first named (come (count + 1) (number + 1) lines)
 unfolding come
 come_one count number line lines named h room =
-    let no : eqb count most_axioms ≡ false = untrue (eqb count most_axioms) (λ e. let full : count ≡ most_axioms = (Decides-eqb count most_axioms).0 e in omega arith) in
+    let no : eqb count most_axioms ≡ false = untrue (eqb count most_axioms)
+    (λ e. let full : count ≡ most_axioms = (Decides-eqb count most_axioms).0 e in omega arith) in
     rw (gives_outcome line (one named) h, no) refl
 
 -- a line with a fault ends it
@@ -110,17 +113,20 @@ come_reads [] axioms count number h few = ap reads (sym h)
 come_reads (line ∷ lines) axioms count number (inl g) few = come_nothing count number line lines g.0 ∙ come_reads lines axioms count (number + 1) g.1 few
 come_reads (line ∷ lines) axioms count number (inr (first, more, given, rest, e)) few =
     let size : length axioms ≡ length more + 1 = ap length e ∙ omega arith in
-    come_one count number line lines first given (omega arith) ∙ ap (with_first first) (come_reads lines more (count + 1) (number + 1) rest (omega arith)) ∙ ap reads (sym e)
+    come_one count number line lines first given (omega arith) ∙ ap (with_first first) (come_reads lines more (count + 1) (number + 1) rest (omega arith))
+    ∙ ap reads (sym e)
 
 -- lines of which one has the first fault come to it
-come_refuses : (before : List (List ℕ)) (line : List ℕ) (after : List (List ℕ)) (axioms : List NamedAxiom) (fault : Fault) (count number : ℕ) → GiveAxioms before axioms → count + length axioms ≤ most_axioms
+come_refuses : (before : List (List ℕ)) (line : List ℕ) (after : List (List ℕ)) (axioms : List NamedAxiom) (fault : Fault) (count number : ℕ)
+    → GiveAxioms before axioms → count + length axioms ≤ most_axioms
     → HasFault fault (count + length axioms) line → come count number (before ++ line ∷ after) ≡ refuses fault (number + length before)
 come_refuses [] line after axioms fault count number h few has =
     let none : count + length axioms ≡ count = rw h (omega arith) in
     let here : HasFault fault count line = subst (λ n. HasFault fault n line) none has in
     come_fault count number fault line after here ∙ ap (refuses fault) (omega arith)
 come_refuses (first ∷ before) line after axioms fault count number (inl g) few has =
-    come_nothing count number first (before ++ line ∷ after) g.0 ∙ come_refuses before line after axioms fault count (number + 1) g.1 few has ∙ ap (refuses fault) (omega arith)
+    come_nothing count number first (before ++ line ∷ after) g.0 ∙ come_refuses before line after axioms fault count (number + 1) g.1 few has
+    ∙ ap (refuses fault) (omega arith)
 come_refuses (first ∷ before) line after axioms fault count number (inr (named, more, given, rest, e)) few has =
     let size : length axioms ≡ length more + 1 = ap length e ∙ omega arith in
     let same : count + length axioms ≡ count + 1 + length more = omega arith in
@@ -134,7 +140,8 @@ comes_computed bytes (reads axioms) h = come_reads (lines_of bytes) axioms 0 1 h
 comes_computed bytes (refuses fault number) h =
     let none : length h.axioms ≡ 0 + length h.axioms = omega arith in
     let here : HasFault fault (0 + length h.axioms) h.line = subst (λ n. HasFault fault n h.line) none h.has_fault in
-    ap (come 0 1) h.lines ∙ come_refuses h.before h.line h.after h.axioms fault 0 1 h.given (omega (arith, h.few)) here ∙ ap (refuses fault) (omega (arith, h.place))
+    ap (come 0 1) h.lines ∙ come_refuses h.before h.line h.after h.axioms fault 0 1 h.given (omega (arith, h.few)) here
+    ∙ ap (refuses fault) (omega (arith, h.place))
 
 -- no text comes to two things
 pub comes_once : (bytes : List ℕ) (first second : TextOutcome) → ComesTo bytes first → ComesTo bytes second → first ≡ second
@@ -166,7 +173,17 @@ came_one : (count : ℕ) (line : List ℕ) (lines : List (List ℕ)) (named : Na
 came_one count line lines named g (inl (axioms, h, few)) = inl (named ∷ axioms, inr (named, axioms, g, h, refl), omega arith)
 came_one count line lines named g (inr (fault, before, at, after, axioms, e, h, few, faulty)) =
     let same : count + 1 + length axioms ≡ count + length (named ∷ axioms) = omega arith in
-    inr (fault, line ∷ before, at, after, named ∷ axioms, ap (λ lines. line ∷ lines) e, inr (named, axioms, g, h, refl), omega arith, subst (λ n. HasFault fault n at) same faulty)
+    inr (
+      fault,
+      line ∷ before,
+      at,
+      after,
+      named ∷ axioms,
+      ap (λ lines. line ∷ lines) e,
+      inr (named, axioms, g, h, refl),
+      omega arith,
+      subst (λ n. HasFault fault n at) same faulty,
+    )
 
 -- a line in front, by what it gives and what the others come to
 came_step : (count : ℕ) (line : List ℕ) (lines : List (List ℕ)) → count ≤ most_axioms → (given : LineOutcome) → Gives line given

@@ -6,7 +6,8 @@ use Rattle.std.specs.List.{list_all}
 use Rattle.std.specs.Str.{bytes_eq}
 use Rattle.std.proofs.lemmas.Slice.Eq.{bytes_eq-Decides}
 use Rattle.axiom_reader.specs.Name.{IsName, is_name_text, is_keyword, is_first, is_later}
-use Rattle.axiom_reader.specs.Axioms.{NamedRole, NamedBasic, NamedAxiom, concept, has, concepts, roles, role_words, basic_words, sign_words, axiom_words, IsNamedBasic, IsNamed}
+use Rattle.axiom_reader.specs.Axioms.{NamedRole, NamedBasic, NamedAxiom, concept, has, concepts, roles, role_words, basic_words, sign_words, axiom_words}
+use Rattle.axiom_reader.specs.Axioms.{IsNamedBasic, IsNamed}
 use Rattle.axiom_reader.specs.Parts.{skip_word, name_at, role_at, basic_at, sign_at, where_ended, concepts_at, roles_at, axiom_at}
 use Rattle.axiom_reader.proofs.TestLemmas.{both, fails, neither}
 
@@ -36,7 +37,8 @@ other_not name h =
 -- no name is `role`
 other_role : IsOther (codes "role")
 other_role name h =
-    (neither (bytes_eq name (codes "role")) _ (neither (bytes_eq name (codes "not")) _ (neither (bytes_eq name (codes "inv")) _ (neither (bytes_eq name (codes "some")) _ (name_keyword name h)).1).1).1).0
+    (neither (bytes_eq name (codes "role")) _ (neither (bytes_eq name (codes "not")) _
+    (neither (bytes_eq name (codes "inv")) _ (neither (bytes_eq name (codes "some")) _ (name_keyword name h)).1).1).1).0
 
 -- another word in front isn't skipped
 skip_other : (word first : List ℕ) (rest : List (List ℕ)) → bytes_eq first word ≡ false
@@ -124,7 +126,8 @@ unfolding axiom_at
 axiom_complete (concepts left negated right) h =
     let apart = basic_others (codes "role") other_role refl left (sign_words negated ++ basic_words right) h.0 in
     rw apart (concepts_complete left negated right h.0 h.1)
-axiom_complete (roles left negated right) h = rw (skip_same (codes "role") (role_words left ++ (sign_words negated ++ role_words right)) refl) (roles_complete left negated right h.0 h.1)
+axiom_complete (roles left negated right) h = rw (skip_same (codes "role") (role_words left ++ (sign_words negated ++ role_words right)) refl)
+    (roles_complete left negated right h.0 h.1)
 
 -- a word that is skipped, put back
 abbrev put_back : List ℕ → Bool → List (List ℕ) → List (List ℕ)
@@ -224,7 +227,8 @@ sign_sound words found e = by (skip_word (codes "<") words).0 (skip_word (codes 
         → cond b (Some (skip_word (codes "not") rest)) None ≡ Some found → words ≡ sign_words found.0 ++ found.1
     by true rest h s =
         let same : skip_word (codes "not") rest ≡ found = cc in
-        let said = h ∙ ap (λ rest. codes "<" ∷ rest) (skip_sound (codes "not") rest) ∙ sign_back (skip_word (codes "not") rest).0 (skip_word (codes "not") rest).1 in
+        let said = h ∙ ap (λ rest. codes "<" ∷ rest) (skip_sound (codes "not") rest)
+        ∙ sign_back (skip_word (codes "not") rest).0 (skip_word (codes "not") rest).1 in
         subst (λ found. words ≡ sign_words found.0 ++ found.1) same said
     by false rest h s = cc
 

@@ -1,5 +1,6 @@
 -- Texts that grow at their end, and the axioms over them.
-use Rattle.std.proofs.Common.{◌≡◌, ℕ, ◌+◌, ◌<◌, Bool, true, false, List, [], ◌∷◌, ◌++◌, length, slice_get, Some, None, position, not, ltb, refl, sym, ap, ap₂, ◌∙◌, zero, suc, arith, append-nil, append_assoc, length-append, cond}
+use Rattle.std.proofs.Common.{◌≡◌, ℕ, ◌+◌, ◌<◌, Bool, true, false, List, [], ◌∷◌, ◌++◌, length, slice_get, Some, None, position, not, ltb, refl, sym, ap, ap₂}
+use Rattle.std.proofs.Common.{◌∙◌, zero, suc, arith, append-nil, append_assoc, length-append, cond}
 use Rattle.std.specs.List.{list_any, flat_map, position_or_len}
 use Rattle.std.specs.Str.{bytes_eq}
 use Rattle.std.proofs.lemmas.Bool.Decides.{Decides-ltb}
@@ -34,7 +35,8 @@ IsPrefix-with_text texts text = by (list_any (bytes_eq text) texts)
 -- so do several
 pub IsPrefix-with_texts : (texts more : List (List ℕ)) → IsPrefix texts (with_texts texts more)
 IsPrefix-with_texts texts [] = IsPrefix-refl texts
-IsPrefix-with_texts texts (text ∷ more) = IsPrefix-trans texts (with_text texts text) _ (IsPrefix-with_text texts text) (IsPrefix-with_texts (with_text texts text) more)
+IsPrefix-with_texts texts (text ∷ more) = IsPrefix-trans texts (with_text texts text) _ (IsPrefix-with_text texts text)
+    (IsPrefix-with_texts (with_text texts text) more)
 
 -- texts that are put, and then more
 pub with_texts-append : (texts first more : List (List ℕ)) → with_texts texts (first ++ more) ≡ with_texts (with_texts texts first) more
@@ -59,14 +61,16 @@ Keeps-with_names vocab concept_names role_names = record {
 flat_map-push : (f : NamedAxiom → List (List ℕ)) (axioms : List NamedAxiom) (named : NamedAxiom)
     → flat_map f (axioms ++ named ∷ []) ≡ flat_map f axioms ++ f named
 flat_map-push f [] named = append-nil (f named)
-flat_map-push f (first ∷ axioms) named = ap (λ rest. f first ++ rest) (flat_map-push f axioms named) ∙ sym (append_assoc (f first) (flat_map f axioms) (f named))
+flat_map-push f (first ∷ axioms) named = ap (λ rest. f first ++ rest) (flat_map-push f axioms named)
+    ∙ sym (append_assoc (f first) (flat_map f axioms) (f named))
 
 -- the names of all axioms and one more
 pub with_axioms-push : (vocab : Vocab) (axioms : List NamedAxiom) (named : NamedAxiom)
     → with_axioms vocab (axioms ++ named ∷ []) ≡ with_names (with_axioms vocab axioms) (axiom_concepts named) (axiom_roles named)
 with_axioms-push vocab axioms named =
     ap₂ (λ (c : List (List ℕ)) (r : List (List ℕ)). record vocab { concepts = c; roles = r })
-    (ap (with_texts vocab.concepts) (flat_map-push axiom_concepts axioms named) ∙ with_texts-append vocab.concepts (flat_map axiom_concepts axioms) (axiom_concepts named))
+    (ap (with_texts vocab.concepts) (flat_map-push axiom_concepts axioms named)
+    ∙ with_texts-append vocab.concepts (flat_map axiom_concepts axioms) (axiom_concepts named))
     (ap (with_texts vocab.roles) (flat_map-push axiom_roles axioms named) ∙ with_texts-append vocab.roles (flat_map axiom_roles axioms) (axiom_roles named))
 
 -- a text keeps its place before more texts
@@ -107,7 +111,8 @@ IsAxiomOf-keeps old new (roles left negated right) given kept h =
 pub AreAxiomsOf-keeps : (old new : Vocab) (names : List NamedAxiom) (axioms : List Axiom) → Keeps old new → AreAxiomsOf old names axioms
     → AreAxiomsOf new names axioms
 AreAxiomsOf-keeps old new [] [] kept h = tt
-AreAxiomsOf-keeps old new (named ∷ names) (given ∷ axioms) kept h = (IsAxiomOf-keeps old new named given kept h.0, AreAxiomsOf-keeps old new names axioms kept h.1)
+AreAxiomsOf-keeps old new (named ∷ names) (given ∷ axioms) kept h =
+    (IsAxiomOf-keeps old new named given kept h.0, AreAxiomsOf-keeps old new names axioms kept h.1)
 AreAxiomsOf-keeps old new [] (given ∷ axioms) kept h = absurd h
 AreAxiomsOf-keeps old new (named ∷ names) [] kept h = absurd h
 
@@ -179,7 +184,8 @@ stay_step false found more texts lt rest = ap (λ n. 1 + n) (rest (omega arith))
 first_stays : (p : List ℕ → Bool) (texts more : List (List ℕ)) → position_or_len p texts < length texts
     → position_or_len p (texts ++ more) ≡ position_or_len p texts
 first_stays p [] more lt = absurd (omega arith)
-first_stays p (first ∷ texts) more lt = stay_step (p first) (position_or_len p texts) (position_or_len p (texts ++ more)) (length texts) lt (first_stays p texts more)
+first_stays p (first ∷ texts) more lt = stay_step (p first) (position_or_len p texts) (position_or_len p (texts ++ more)) (length texts) lt
+    (first_stays p texts more)
 
 -- so its place is found there
 place_stays : (p : List ℕ → Bool) (texts more : List (List ℕ)) (number : ℕ) → position p texts ≡ Some number

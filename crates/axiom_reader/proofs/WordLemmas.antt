@@ -1,5 +1,6 @@
 -- The words of a line, taken from its front.
-use Rattle.std.proofs.Common.{suc, ◌≡◌, ℕ, ◌<◌, ◌≤◌, ◌+◌, ◌-◌, Bool, true, false, cond, not, eqb, List, [], ◌∷◌, ◌++◌, length, take, drop, get_or, Some, None, position, refl, sym, ap, ◌∙◌, arith, append-nil, length-drop}
+use Rattle.std.proofs.Common.{suc, ◌≡◌, ℕ, ◌<◌, ◌≤◌, ◌+◌, ◌-◌, Bool, true, false, cond, not, eqb, List, [], ◌∷◌, ◌++◌, length, take, drop, get_or, Some, None}
+use Rattle.std.proofs.Common.{position, refl, sym, ap, ◌∙◌, arith, append-nil, length-drop}
 use Rattle.std.specs.List.{position_or_len, slice_split, onto_first}
 use Rattle.std.specs.Prelude.{filter}
 use Rattle.std.proofs.lemmas.List.{take_rest}

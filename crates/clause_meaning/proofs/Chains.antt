@@ -106,7 +106,8 @@ Refutes-more S T L M s m (chain, i, e) = (chain, IsChain-more S T L M s m chain 
 -- literals that clash where each is reached refute
 pub Refutes-from_reached : (S : List ℕ → Type 0) (L K : ℕ → Type 0) → ((l : ℕ) → K l → Reaches S L l) → Refutes S K → Refutes S L
 Refutes-from_reached S L K h r =
-    Refutes-from_clash S L (Clashes-more S S (Reaches S K) (Reaches S L) (λ c s. s) (λ l p. Reaches-again S L l (Reaches-more S S K (Reaches S L) (λ c s. s) h l p)) (clash_from_Refutes S K r))
+    Refutes-from_clash S L (Clashes-more S S (Reaches S K) (Reaches S L) (λ c s. s)
+    (λ l p. Reaches-again S L l (Reaches-more S S K (Reaches S L) (λ c s. s) h l p)) (clash_from_Refutes S K r))
 
 -- a closed set that has the given literals stands against each refutation
 pub closed_not_refuted : (S : List ℕ → Type 0) (L M : ℕ → Type 0) → IsClosed S M → ((l : ℕ) → L l → M l) → Refutes S L → ⊥

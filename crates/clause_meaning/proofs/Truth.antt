@@ -39,7 +39,8 @@ forced_is_true v c l (k, m, t) f =
       | inr n ↦ absurd (not_both_true v k t (f.others k m n))
     ]
 
-pub reached_is_true : (S : List ℕ → Type 0) (L : ℕ → Type 0) (v : ℕ → Bool) → SatisfiesAll v S → ((l : ℕ) → L l → IsTrueIn v l) → (l : ℕ) → Reaches S L l → IsTrueIn v l
+pub reached_is_true : (S : List ℕ → Type 0) (L : ℕ → Type 0) (v : ℕ → Bool) → SatisfiesAll v S → ((l : ℕ) → L l → IsTrueIn v l) → (l : ℕ) → Reaches S L l
+    → IsTrueIn v l
 reached_is_true S L v s t = Reaches-least S L (IsTrueIn v) t (λ c l m f. forced_is_true v c l (s c m) f)
 
 pub no_true_clash : (S : List ℕ → Type 0) (v : ℕ → Bool) → SatisfiesAll v S → Clashes S (IsTrueIn v) → ⊥
@@ -76,11 +77,13 @@ following_is_true S clause r v s =
 abbrev ReachedOrTrue : (ℕ → Bool) → (List ℕ → Type 0) → (ℕ → Type 0) → (ℕ → Bool) → ℕ → Type 0
 ReachedOrTrue scope S L v l = ((scope (variable_of l) ≡ true) × Reaches (Inside scope S) L l) ⊎ ((scope (variable_of l) ≡ false) × IsTrueIn v l)
 
-reached : (scope : ℕ → Bool) (S : List ℕ → Type 0) (L : ℕ → Type 0) (v : ℕ → Bool) (l : ℕ) → scope (variable_of l) ≡ true → ReachedOrTrue scope S L v l → Reaches (Inside scope S) L l
+reached : (scope : ℕ → Bool) (S : List ℕ → Type 0) (L : ℕ → Type 0) (v : ℕ → Bool) (l : ℕ) → scope (variable_of l) ≡ true → ReachedOrTrue scope S L v l
+    → Reaches (Inside scope S) L l
 reached scope S L v l e (inl p) = p.1
 reached scope S L v l e (inr p) = absurd (both_ways (scope (variable_of l)) p.0 e)
 
-true_outside : (scope : ℕ → Bool) (S : List ℕ → Type 0) (L : ℕ → Type 0) (v : ℕ → Bool) (l : ℕ) → scope (variable_of l) ≡ false → ReachedOrTrue scope S L v l → IsTrueIn v l
+true_outside : (scope : ℕ → Bool) (S : List ℕ → Type 0) (L : ℕ → Type 0) (v : ℕ → Bool) (l : ℕ) → scope (variable_of l) ≡ false → ReachedOrTrue scope S L v l
+    → IsTrueIn v l
 true_outside scope S L v l e (inl p) = absurd (both_ways (scope (variable_of l)) e p.0)
 true_outside scope S L v l e (inr p) = p.1
 
@@ -89,8 +92,24 @@ forced_inside : (scope : ℕ → Bool) (S : List ℕ → Type 0) (L : ℕ → Ty
     → (c : List ℕ) (l : ℕ) → S c → Forces c (ReachedOrTrue scope S L v) l → ReachedOrTrue scope S L v l
 forced_inside scope S L v separated satisfied c l s f =
     elim (separated c s) [
-      | inl inside ↦ inl (inside l f.member, Reaches-forced (Inside scope S) L c l (s, inside) (record { member = f.member; others = λ k m n. reached scope S L v (opposite_of k) (ap scope (variable_of-opposite_of k) ∙ inside k m) (f.others k m n) }))
-      | inr outside ↦ inr (outside l f.member, forced_is_true v c l (satisfied c s outside) (record { member = f.member; others = λ k m n. true_outside scope S L v (opposite_of k) (ap scope (variable_of-opposite_of k) ∙ outside k m) (f.others k m n) }))
+      | inl inside ↦ inl (
+        inside l f.member,
+        Reaches-forced (Inside scope S) L c l (s, inside)
+            (record {
+              member = f.member;
+              others = λ k m n. reached scope S L v (opposite_of k) (ap scope (variable_of-opposite_of k) ∙ inside k m)
+                  (f.others k m n);
+            }),
+      )
+      | inr outside ↦ inr (
+        outside l f.member,
+        forced_is_true v c l (satisfied c s outside)
+            (record {
+              member = f.member;
+              others = λ k m n. true_outside scope S L v (opposite_of k) (ap scope (variable_of-opposite_of k) ∙ outside k m)
+                  (f.others k m n);
+            }),
+      )
     ]
 
 clash_inside : (scope : ℕ → Bool) (S : List ℕ → Type 0) (L : ℕ → Type 0) (v : ℕ → Bool) → Separates scope S
@@ -98,8 +117,13 @@ clash_inside : (scope : ℕ → Bool) (S : List ℕ → Type 0) (L : ℕ → Typ
     → Clashes S (ReachedOrTrue scope S L v) → Refutes (Inside scope S) L
 clash_inside scope S L v separated satisfied (inl (c, s, f)) =
     elim (separated c s) [
-      | inl inside ↦ Refutes-from_clash (Inside scope S) L (inl (c, (s, inside), λ k m. reached scope S L v (opposite_of k) (ap scope (variable_of-opposite_of k) ∙ inside k m) (f k m)))
-      | inr outside ↦ (let w = satisfied c s outside in absurd (not_both_true v w.0 w.2 (true_outside scope S L v (opposite_of w.0) (ap scope (variable_of-opposite_of w.0) ∙ outside w.0 w.1) (f w.0 w.1))))
+      | inl inside ↦ Refutes-from_clash (Inside scope S) L (inl (
+        c,
+        (s, inside),
+        λ k m. reached scope S L v (opposite_of k) (ap scope (variable_of-opposite_of k) ∙ inside k m) (f k m),
+      ))
+      | inr outside ↦ (let w = satisfied c s outside in absurd (not_both_true v w.0 w.2
+          (true_outside scope S L v (opposite_of w.0) (ap scope (variable_of-opposite_of w.0) ∙ outside w.0 w.1) (f w.0 w.1))))
     ]
 clash_inside scope S L v separated satisfied (inr (l, inl p, q)) =
     Refutes-from_clash (Inside scope S) L (inr (l, p.1, reached scope S L v (opposite_of l) (ap scope (variable_of-opposite_of l) ∙ p.0) q))
@@ -113,5 +137,6 @@ pub refuted_inside : (scope : ℕ → Bool) (S : List ℕ → Type 0) (L : ℕ �
 refuted_inside scope S L v separated given satisfied r =
     clash_inside scope S L v separated satisfied
     (Clashes-more S S (Reaches S L) (ReachedOrTrue scope S L v) (λ c s. s)
-    (Reaches-least S L (ReachedOrTrue scope S L v) (λ l g. inl (given l g, Reaches-given (Inside scope S) L l g)) (forced_inside scope S L v separated satisfied))
+    (Reaches-least S L (ReachedOrTrue scope S L v) (λ l g. inl (given l g, Reaches-given (Inside scope S) L l g))
+    (forced_inside scope S L v separated satisfied))
     (clash_from_Refutes S L r))

@@ -1,5 +1,6 @@
 -- The findings of all facts are the answers.
-use Rattle.std.proofs.Common.{◌≡◌, ℕ, zero, suc, ◌+◌, ◌<◌, ◌≤◌, ◌↔◌, List, [], ◌∷◌, All, AllPairs, Contains, length, map, refl, sym, subst, ap, ◌∙◌, arith, true≢false, IsSome, IfSome, Option, Some, None, slice_get, get_or, ◌==◌, cond}
+use Rattle.std.proofs.Common.{◌≡◌, ℕ, zero, suc, ◌+◌, ◌<◌, ◌≤◌, ◌↔◌, List, [], ◌∷◌, All, AllPairs, Contains, length, map, refl, sym, subst, ap, ◌∙◌, arith}
+use Rattle.std.proofs.Common.{true≢false, IsSome, IfSome, Option, Some, None, slice_get, get_or, ◌==◌, cond}
 use Rattle.std.specs.Cmp.Lexicographic.{slice_cmp}
 use Rattle.std.specs.List.{filter_map}
 use Rattle.std.specs.Ordering.{nat_cmp, ordering_then}
@@ -82,11 +83,13 @@ before a b l = ap (λ o. ordering_then o Equal) less
     less = ap (λ t. cond t Less (cond (a == b) Equal Greater)) ((Decides-ltb a b).1 l)
 
 -- answers that stand at the numbers of their individuals are in order
-ascending : (os : List (Option Answer)) (n : ℕ) → ((t : ℕ) (x : Answer) → slice_get os t ≡ Some (Some x) → x.individual ≡ n + t) → AllPairs (λ a b. slice_cmp nat_cmp a b ≡ Less) (map (λ (x : Answer). x.individual ∷ []) (present os))
+ascending : (os : List (Option Answer)) (n : ℕ) → ((t : ℕ) (x : Answer) → slice_get os t ≡ Some (Some x) → x.individual ≡ n + t)
+    → AllPairs (λ a b. slice_cmp nat_cmp a b ≡ Less) (map (λ (x : Answer). x.individual ∷ []) (present os))
 ascending [] n at = λ i j d l m. absurd (omega (arith, m))
 ascending (None ∷ os) n at = ascending os (n + 1) (λ t x e. at (suc t) x e ∙ omega arith)
 ascending (Some y ∷ os) n at =
-    AllPairs-cons (λ a b. slice_cmp nat_cmp a b ≡ Less) (y.individual ∷ []) (map (λ (x : Answer). x.individual ∷ []) (present os)) first (ascending os (n + 1) (λ t x e. at (suc t) x e ∙ omega arith))
+    AllPairs-cons (λ a b. slice_cmp nat_cmp a b ≡ Less) (y.individual ∷ []) (map (λ (x : Answer). x.individual ∷ []) (present os)) first
+    (ascending os (n + 1) (λ t x e. at (suc t) x e ∙ omega arith))
   where
     first : (z : List ℕ) → Contains (map (λ (x : Answer). x.individual ∷ []) (present os)) z → slice_cmp nat_cmp (y.individual ∷ []) z ≡ Less
     first z c =
@@ -112,12 +115,14 @@ name_of_fact n m (fact.Link p c d) h = h
 -- a fact of the table, by its number
 pub fact_below : (n m : ℕ) (facts : List Fact) → All (IsOfNameBelow n m) facts → (i a t : ℕ) → slice_get facts i ≡ Some (fact.Concept a t) → (a < n) × (t < m)
 fact_below n m facts h i a t e =
-    subst (IsOfNameBelow n m) (get_or_from_slice_get facts i (fact.Concept a t) (fact.Concept a t) e) (h i (fact.Concept a t) (slice_get_within facts i (fact.Concept a t) e))
+    subst (IsOfNameBelow n m) (get_or_from_slice_get facts i (fact.Concept a t) (fact.Concept a t) e)
+    (h i (fact.Concept a t) (slice_get_within facts i (fact.Concept a t) e))
 
 pub named_below : (n m : ℕ) (facts : List Fact) → All (IsOfNameBelow n m) facts → AreNamedBelow n facts
 named_below n m facts h i a t e = (fact_below n m facts h i a t e).0
 
-module _ (kb : Knowledge) (concept n m : ℕ) (names : All (IsOfNamesBelow n) kb.axioms) (facts : All (IsOfNameBelow n m) kb.facts) (findings : List (Option Answer)) (found : AreFindings kb concept m (length kb.facts) findings) where
+module _ (kb : Knowledge) (concept n m : ℕ) (names : All (IsOfNamesBelow n) kb.axioms) (facts : All (IsOfNameBelow n m) kb.facts)
+    (findings : List (Option Answer)) (found : AreFindings kb concept m (length kb.facts) findings) where
   verdicts : (t : ℕ) → VerdictsByNames kb concept t
   verdicts t =
       verdicts_by_names kb (λ k d l. names_of n (get_or kb.axioms k d) (names k d l)) (λ k d l. name_of_fact n m (get_or kb.facts k d) (facts k d l)) concept t
@@ -153,25 +158,31 @@ module _ (kb : Knowledge) (concept n m : ℕ) (names : All (IsOfNamesBelow n) kb
       let w = within t p.0 p.1 in
       go (get_or findings t None) (slice_get-get_or findings t None (subst (λ b. t < b) (sym found.size) w.1)) p w.0
     where
-      go : (o : Option Answer) → slice_get findings t ≡ Some o → (p : (i : ℕ) × PutsInto kb concept t i) → p.0 < length kb.facts → Contains (map (λ (x : Answer). x.individual ∷ []) (present findings)) (t ∷ [])
+      go : (o : Option Answer) → slice_get findings t ≡ Some o → (p : (i : ℕ) × PutsInto kb concept t i) → p.0 < length kb.facts
+          → Contains (map (λ (x : Answer). x.individual ∷ []) (present findings)) (t ∷ [])
       go None e p l = absurd (found.right t None e p.0 l p.1)
       go (Some x) e p l =
-          subst (λ u. Contains (map (λ (x : Answer). x.individual ∷ []) (present findings)) (u ∷ [])) (found.right t (Some x) e).0 (Contains-map (λ (x : Answer). x.individual ∷ []) (present findings) x (present_at findings t x e))
+          subst (λ u. Contains (map (λ (x : Answer). x.individual ∷ []) (present findings)) (u ∷ [])) (found.right t (Some x) e).0
+          (Contains-map (λ (x : Answer). x.individual ∷ []) (present findings) x (present_at findings t x e))
 
   right : (x : Answer) → IsFinding kb concept (length kb.facts) x.individual (Some x) → IsRightAnswer kb (concept_query concept) x
   right x f = record { brave = brave x.witness f.2; least = least x.witness f.2 }
     where
-      brave : (o : Option ℕ) → IsLeastBelow (PutsSafelyInto kb concept x.individual) (length kb.facts) o → IsSome o ↔ IsBrave kb mode.All (concept_query concept) (x.individual ∷ [])
+      brave : (o : Option ℕ) → IsLeastBelow (PutsSafelyInto kb concept x.individual) (length kb.facts) o → IsSome o
+          ↔ IsBrave kb mode.All (concept_query concept) (x.individual ∷ [])
       brave None none = (
         (λ s. absurd (true≢false (sym s))),
-        (λ b. let w = (verdicts x.individual).brave.0 b in let p = ((verdicts x.individual).witness w.0).0 w.1 in absurd (none w.0 (safe_within x.individual w.0 p) p)),
+        (λ b. let w = (verdicts x.individual).brave.0 b in let p = ((verdicts x.individual).witness w.0).0 w.1 in
+            absurd (none w.0 (safe_within x.individual w.0 p) p)),
       )
       brave (Some w) (l, p, m) = (
         (λ s. (verdicts x.individual).brave.1 (w, ((verdicts x.individual).witness w).1 p)),
         (λ b. refl),
       )
 
-      least : (o : Option ℕ) → IsLeastBelow (PutsSafelyInto kb concept x.individual) (length kb.facts) o → IfSome o (λ i. IsWitness kb (concept_query concept) (x.individual ∷ []) i × ((j : ℕ) → IsWitness kb (concept_query concept) (x.individual ∷ []) j → i ≤ j))
+      least : (o : Option ℕ) → IsLeastBelow (PutsSafelyInto kb concept x.individual) (length kb.facts) o
+          → IfSome o (λ i. IsWitness kb (concept_query concept) (x.individual ∷ []) i
+          × ((j : ℕ) → IsWitness kb (concept_query concept) (x.individual ∷ []) j → i ≤ j))
       least None none = tt
       least (Some w) (l, p, m) = (((verdicts x.individual).witness w).1 p, λ j q. m j (((verdicts x.individual).witness j).0 q))
 
@@ -179,8 +190,10 @@ module _ (kb : Knowledge) (concept n m : ℕ) (names : All (IsOfNamesBelow n) kb
   pub answers_of : AreAnswers kb (concept_query concept) (present findings)
   answers_of = record {
     candidates = record {
-      entailed = All-map (FactsEntail kb Every (concept_query concept)) (λ (x : Answer). x.individual ∷ []) (present findings) (λ k d l. entailed (get_or (present findings) k d) (Contains-get_or (present findings) k d l));
-      complete = λ tuple h. let s = single tuple h in subst (Contains (map (λ (x : Answer). x.individual ∷ []) (present findings))) (sym s.1) (complete s.0 (subst (FactsEntail kb Every (concept_query concept)) s.1 h));
+      entailed = All-map (FactsEntail kb Every (concept_query concept)) (λ (x : Answer). x.individual ∷ []) (present findings)
+          (λ k d l. entailed (get_or (present findings) k d) (Contains-get_or (present findings) k d l));
+      complete = λ tuple h. let s = single tuple h in subst (Contains (map (λ (x : Answer). x.individual ∷ []) (present findings))) (sym s.1)
+          (complete s.0 (subst (FactsEntail kb Every (concept_query concept)) s.1 h));
       ascending = ascending findings 0 (λ t x e. (found.right t (Some x) e).0 ∙ omega arith);
     };
     right = λ k d l. let x = get_or (present findings) k d in right x (finding x (Contains-get_or (present findings) k d l));

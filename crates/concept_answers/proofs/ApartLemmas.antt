@@ -34,9 +34,12 @@ listed_more lists names i old set more l e h b = (to, from)
       | inr d ↦ inr (subst (λ ns. Contains ns b) (sym e) (subst (λ y. Contains (names_at lists y) b) (sym d) m))
     ])
 
-module _ (axioms : List Axiom) (above apart below opposed : List (List ℕ)) (inclusions : AreLists inclusion axioms above) (disjoint : AreLists disjointness axioms apart)
-    (down : AreTransposed above below) (against : AreTransposed apart opposed) (name : ℕ) (names : List ℕ) (closed : (x : ℕ) → Contains names x ↔ IsSubsumed axioms name x)
-    (first second : List ℕ) (in_first : (y : ℕ) → Contains first y ↔ (Contains [] y ⊎ IsListed apart names y)) (in_second : (y : ℕ) → Contains second y ↔ (Contains first y ⊎ IsListed opposed names y)) where
+module _ (axioms : List Axiom) (above apart below opposed : List (List ℕ)) (inclusions : AreLists inclusion axioms above)
+    (disjoint : AreLists disjointness axioms apart)
+    (down : AreTransposed above below) (against : AreTransposed apart opposed) (name : ℕ) (names : List ℕ)
+    (closed : (x : ℕ) → Contains names x ↔ IsSubsumed axioms name x)
+    (first second : List ℕ) (in_first : (y : ℕ) → Contains first y ↔ (Contains [] y ⊎ IsListed apart names y))
+    (in_second : (y : ℕ) → Contains second y ↔ (Contains first y ⊎ IsListed opposed names y)) where
   -- what stands against a name above
   against_one : (y b : ℕ) → IsSubsumed axioms b y → Contains second y → AreApart axioms name b
   against_one y b q c = elim ((in_second y).0 c) [

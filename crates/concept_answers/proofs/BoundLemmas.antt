@@ -33,7 +33,8 @@ of_name : (n m : ℕ) (f : Fact) → IsOfNameBelow n m f → IsOfName f
 of_name n m (fact.Concept a c) h = tt
 of_name n m (fact.Link p c d) h = absurd h
 
-module _ (law : ConceptNameVerdicts) (kb : Knowledge) (n m : ℕ) (axioms : All (IsOfNamesBelow n) kb.axioms) (facts : All (IsOfNameBelow n m) kb.facts) (concept : ℕ) where
+module _ (law : ConceptNameVerdicts) (kb : Knowledge) (n m : ℕ) (axioms : All (IsOfNamesBelow n) kb.axioms) (facts : All (IsOfNameBelow n m) kb.facts)
+    (concept : ℕ) where
   -- a candidate is an individual of the table
   candidate_below : (t : ℕ) → FactsEntail kb Every (concept_query concept) (t ∷ []) → t < m
   candidate_below t e = go ((law kb (All-weaker _ _ (of_names n) kb.axioms axioms) (All-weaker _ _ (of_name n m) kb.facts facts) concept t).candidate.0 e)
@@ -46,9 +47,11 @@ module _ (law : ConceptNameVerdicts) (kb : Knowledge) (n m : ℕ) (axioms : All 
 
   -- so each answer is of one
   pub answers_below : (answers : List Answer) → AreAnswers kb (concept_query concept) answers → All (λ answer. answer.individual < m) answers
-  answers_below answers right = All-from_recursion _ answers (each answers (recursion_from_All _ (map (λ a. a.individual ∷ []) answers) right.candidates.entailed))
+  answers_below answers right = All-from_recursion _ answers (each answers
+      (recursion_from_All _ (map (λ a. a.individual ∷ []) answers) right.candidates.entailed))
     where
-      each : (xs : List Answer) → AllByRecursion (FactsEntail kb Every (concept_query concept)) (map (λ a. a.individual ∷ []) xs) → AllByRecursion (λ answer. answer.individual < m) xs
+      each : (xs : List Answer) → AllByRecursion (FactsEntail kb Every (concept_query concept)) (map (λ a. a.individual ∷ []) xs)
+          → AllByRecursion (λ answer. answer.individual < m) xs
       each [] h = tt
       each (x ∷ xs) h = (candidate_below x.individual h.0, each xs h.1)
 
@@ -56,7 +59,8 @@ module _ (law : ConceptNameVerdicts) (kb : Knowledge) (n m : ℕ) (axioms : All 
   pub safe_witnesses : (answers : List Answer) → AreAnswers kb (concept_query concept) answers → All (HasSafeWitness kb) answers
   safe_witnesses answers right = All-weaker (IsRightAnswer kb (concept_query concept)) (HasSafeWitness kb) each answers right.right
     where
-      safe : (t : ℕ) (o : Option ℕ) → IfSome o (λ i. IsWitness kb (concept_query concept) (t ∷ []) i × ((j : ℕ) → IsWitness kb (concept_query concept) (t ∷ []) j → i ≤ j)) → IfSome o (IsSafe kb t)
+      safe : (t : ℕ) (o : Option ℕ) → IfSome o (λ i. IsWitness kb (concept_query concept) (t ∷ []) i
+          × ((j : ℕ) → IsWitness kb (concept_query concept) (t ∷ []) j → i ≤ j)) → IfSome o (IsSafe kb t)
       safe t None h = tt
       safe t (Some w) h =
           let p = ((law kb (All-weaker _ _ (of_names n) kb.axioms axioms) (All-weaker _ _ (of_name n m) kb.facts facts) concept t).witness w).0 h.0 in

@@ -1,5 +1,6 @@
 -- Lists of names by the number of a name, and the names that inclusions lead to.
-use Rattle.std.proofs.Common.{◌≡◌, ℕ, zero, suc, ◌+◌, ◌<◌, ◌≤◌, ◌≢◌, ◌⊎◌, ◌↔◌, inl, inr, List, [], ◌∷◌, ◌++◌, All, Contains, length, refl, sym, subst, ap, ◌∙◌, arith, take, get_or, replicate}
+use Rattle.std.proofs.Common.{◌≡◌, ℕ, zero, suc, ◌+◌, ◌<◌, ◌≤◌, ◌≢◌, ◌⊎◌, ◌↔◌, inl, inr, List, [], ◌∷◌, ◌++◌, All, Contains, length, refl, sym, subst, ap}
+use Rattle.std.proofs.Common.{◌∙◌, arith, take, get_or, replicate}
 use Rattle.std.specs.List.{fold}
 use Rattle.std.specs.Result.{OnOk}
 use Rattle.std.specs.declared.result.Result.{Result}
@@ -20,7 +21,8 @@ on_ok (Ok x) p f = f p
 on_ok (Err e) p f = tt
 
 -- an entry adds the pair that it is of
-pub AddsPair-entry : (make : ℕ → ℕ → Axiom) → ((a b x y : ℕ) → make a b ≡ make x y → (a ≡ x) × (b ≡ y)) → (lists : List (List ℕ)) (a b : ℕ) → a < length lists → AddsPair make (make a b) lists (with_entry lists a b)
+pub AddsPair-entry : (make : ℕ → ℕ → Axiom) → ((a b x y : ℕ) → make a b ≡ make x y → (a ≡ x) × (b ≡ y)) → (lists : List (List ℕ)) (a b : ℕ) → a < length lists
+    → AddsPair make (make a b) lists (with_entry lists a b)
 AddsPair-entry make same lists a b l x y = (to (cases_eq x a), from (cases_eq x a))
   where
     here : names_at (with_entry lists a b) a ≡ names_at lists a ++ b ∷ []
@@ -66,7 +68,8 @@ AreLists-none make axioms lists n e a b = (
 )
 
 -- one axiom more
-pub AreLists-more : (make : ℕ → ℕ → Axiom) (axioms : List Axiom) (i : ℕ) (d : Axiom) (old new : List (List ℕ)) → i < length axioms → AddsPair make (get_or axioms i d) old new → AreLists make (take i axioms) old → AreLists make (take (i + 1) axioms) new
+pub AreLists-more : (make : ℕ → ℕ → Axiom) (axioms : List Axiom) (i : ℕ) (d : Axiom) (old new : List (List ℕ)) → i < length axioms
+    → AddsPair make (get_or axioms i d) old new → AreLists make (take i axioms) old → AreLists make (take (i + 1) axioms) new
 AreLists-more make axioms i d old new l adds h a b = (to, from)
   where
     to : Contains (names_at new a) b → Contains (take (i + 1) axioms) (make a b)
@@ -79,11 +82,13 @@ AreLists-more make axioms i d old new l adds h a b = (to, from)
     from c = (adds a b).1 (elim (Contains-take_cases axioms i d (make a b) l c) [ inl o ↦ inl ((h a b).1 o) | inr e ↦ inr e ])
 
 -- all axioms
-pub AreLists-all : (make : ℕ → ℕ → Axiom) (axioms : List Axiom) (i : ℕ) (lists : List (List ℕ)) → length axioms ≤ i → AreLists make (take i axioms) lists → AreLists make axioms lists
+pub AreLists-all : (make : ℕ → ℕ → Axiom) (axioms : List Axiom) (i : ℕ) (lists : List (List ℕ)) → length axioms ≤ i → AreLists make (take i axioms) lists
+    → AreLists make axioms lists
 AreLists-all make axioms i lists l h = subst (λ rules. AreLists make rules lists) (take_all i axioms l) h
 
 -- the names are below the bound of the axioms
-pub AreWithin-lists : (make : ℕ → ℕ → Axiom) (n : ℕ) → ((a b : ℕ) → IsOfNamesBelow n (make a b) → b < n) → (axioms : List Axiom) (lists : List (List ℕ)) → All (IsOfNamesBelow n) axioms → length lists ≡ n → AreLists make axioms lists → AreWithin n lists
+pub AreWithin-lists : (make : ℕ → ℕ → Axiom) (n : ℕ) → ((a b : ℕ) → IsOfNamesBelow n (make a b) → b < n) → (axioms : List Axiom) (lists : List (List ℕ))
+    → All (IsOfNamesBelow n) axioms → length lists ≡ n → AreLists make axioms lists → AreWithin n lists
 AreWithin-lists make n below axioms lists names size h = record {
   size = size;
   names = λ a b c. below a b (All-contains (IsOfNamesBelow n) axioms (make a b) names ((h a b).0 c));
@@ -104,11 +109,13 @@ Closes-none lists starts = record {
   before = omega arith;
 }
 
-pub Closes-more : (lists : List (List ℕ)) (starts names : List ℕ) (next : ℕ) (more : List ℕ) → next < length names → more ≡ names_at lists (get_or names next 0) → Closes lists starts names next → Closes lists starts (fold with_name names more) (next + 1)
+pub Closes-more : (lists : List (List ℕ)) (starts names : List ℕ) (next : ℕ) (more : List ℕ) → next < length names
+    → more ≡ names_at lists (get_or names next 0) → Closes lists starts names next → Closes lists starts (fold with_name names more) (next + 1)
 Closes-more lists starts names next more l e h = record {
   start = λ b c. (Contains-with_names more names b).1 (inl (h.start b c));
   sound = λ b c. sound b ((Contains-with_names more names b).0 c);
-  closed = λ k b m c. (Contains-with_names more names b).1 (closed k b (cases_eq k next) m (subst (λ a. Contains (names_at lists a) b) (get_or-with_names more names k 0 (omega (arith, m))).0 c));
+  closed = λ k b m c. (Contains-with_names more names b).1 (closed k b (cases_eq k next) m
+      (subst (λ a. Contains (names_at lists a) b) (get_or-with_names more names k 0 (omega (arith, m))).0 c));
   before = omega (arith, (get_or-with_names more names next 0 l).1);
 }
   where
@@ -123,7 +130,8 @@ Closes-more lists starts names next more l e h = record {
         inr (subst (λ ns. Contains ns b) (sym e) (subst (λ j. Contains (names_at lists (get_or names j 0)) b) d c))
     closed k b (inr n) m c = inl (h.closed k b (omega (arith, m)) c)
 
-pub Closes-all : (lists : List (List ℕ)) (starts names : List ℕ) (next : ℕ) → length names ≤ next → Closes lists starts names next → (b : ℕ) → Contains names b ↔ IsLedTo lists starts b
+pub Closes-all : (lists : List (List ℕ)) (starts names : List ℕ) (next : ℕ) → length names ≤ next → Closes lists starts names next → (b : ℕ)
+    → Contains names b ↔ IsLedTo lists starts b
 Closes-all lists starts names next l h b = (h.sound b, λ (a, s, n, leads). reached a s n b leads)
   where
     reached : (a : ℕ) → Contains starts a → (n b : ℕ) → LeadsIn lists n a b → Contains names b
@@ -154,8 +162,17 @@ only_member x b (zero, l, e) = e
 only_member x b (suc k, l, e) = absurd (omega (arith, l))
 
 -- from one name entries lead to those that subsume it
-pub led_from_one : (axioms : List Axiom) (above : List (List ℕ)) → AreLists inclusion axioms above → (starts : List ℕ) (name b : ℕ) → starts ≡ name ∷ [] → IsLedTo above starts b ↔ IsSubsumed axioms name b
-led_from_one axioms above h starts name b e = (to, λ s. (name, subst (λ ns. Contains ns name) (sym e) (0, omega arith, refl), s.0, includes-LeadsIn axioms above h s.0 name b s.1))
+pub led_from_one : (axioms : List Axiom) (above : List (List ℕ)) → AreLists inclusion axioms above → (starts : List ℕ) (name b : ℕ) → starts ≡ name ∷ []
+    → IsLedTo above starts b ↔ IsSubsumed axioms name b
+led_from_one axioms above h starts name b e = (
+  to,
+  λ s. (
+    name,
+    subst (λ ns. Contains ns name) (sym e) (0, omega arith, refl),
+    s.0,
+    includes-LeadsIn axioms above h s.0 name b s.1,
+  ),
+)
   where
     to : IsLedTo above starts b → IsSubsumed axioms name b
     to (a, c, n, i) =
@@ -163,6 +180,7 @@ led_from_one axioms above h starts name b e = (to, λ s. (name, subst (λ ns. Co
         (n, LeadsIn-includes axioms above h n name b (subst (λ x. LeadsIn above n x b) (sym same) i))
 
 -- the names that the lists have for a name are below the bound
-pub names_at_within : (n : ℕ) (lists : List (List ℕ)) (from : ℕ) (names : List ℕ) → AreWithin n lists → names ≡ names_at lists from → All (λ name. name < n) names
+pub names_at_within : (n : ℕ) (lists : List (List ℕ)) (from : ℕ) (names : List ℕ) → AreWithin n lists → names ≡ names_at lists from
+    → All (λ name. name < n) names
 names_at_within n lists from names h e k d l =
     h.names from (get_or names k d) (subst (λ ns. Contains ns (get_or names k d)) e (Contains-get_or names k d l))

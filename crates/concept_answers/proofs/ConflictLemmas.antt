@@ -1,5 +1,6 @@
 -- The facts that conflict with a fact, found among those of its individual.
-use Rattle.std.proofs.Common.{◌≡◌, ℕ, zero, suc, ◌+◌, ◌<◌, ◌≤◌, ◌⊎◌, ◌↔◌, inl, inr, List, [], ◌∷◌, ◌++◌, All, Contains, length, map, refl, sym, subst, ap, ◌∙◌, arith, Option, Some, None, IfSome, IsTrue, Bool, option_and_then, option_map, slice_get, get_or, take, set}
+use Rattle.std.proofs.Common.{◌≡◌, ℕ, zero, suc, ◌+◌, ◌<◌, ◌≤◌, ◌⊎◌, ◌↔◌, inl, inr, List, [], ◌∷◌, ◌++◌, All, Contains, length, map, refl, sym, subst, ap}
+use Rattle.std.proofs.Common.{◌∙◌, arith, Option, Some, None, IfSome, IsTrue, Bool, option_and_then, option_map, slice_get, get_or, take, set}
 use Rattle.std.specs.List.{AllZip}
 use Rattle.std.specs.Option.{IsSomeAnd}
 use Rattle.std.proofs.lemmas.Bool.{cases_eq}
@@ -17,7 +18,8 @@ use Rattle.cq_meaning.specs.Laws.{ConceptNameConflicts}
 use Rattle.concept_answers.specs.Answers.{AreConflictsWith, HasConflicts}
 use Rattle.concept_answers.specs.Hierarchies.{names_at}
 use Rattle.concept_answers.specs.Places.{HasKey, ArePlaces, AreKeysBelow}
-use Rattle.concept_answers.specs.Rivals.{AreNamesApart, IsRival, individual_of, name_of, name_of_witness, IsSafe, HasSafeWitness, AreFactNumbers, AreConflictsOf, AreFilled}
+use Rattle.concept_answers.specs.Rivals.{AreNamesApart, IsRival, individual_of, name_of, name_of_witness, IsSafe, HasSafeWitness, AreFactNumbers}
+use Rattle.concept_answers.specs.Rivals.{AreConflictsOf, AreFilled}
 use Rattle.concept_answers.specs.Standings.{IsOfNameBelow, IsStanding}
 use Rattle.concept_answers.specs.declared.standings.Standing.{Standing}
 use Rattle.concept_answers.specs.declared.verdicts.Answer.{Answer}
@@ -50,19 +52,23 @@ name_of_fact_at (fact.Concept b t) a e = (t, ap (λ x. fact.Concept x t) (same_S
 name_of_fact_at (fact.Link p c d) a e = absurd (none-some a e)
 
 -- an answer that has a concept name as key has a witness of it
-witness_key : (facts : List Fact) (answer : Answer) (a : ℕ) → name_of_witness facts answer ≡ Some a → (w : ℕ) × (t : ℕ) × (answer.witness ≡ Some w) × (slice_get facts w ≡ Some (fact.Concept a t))
+witness_key : (facts : List Fact) (answer : Answer) (a : ℕ) → name_of_witness facts answer ≡ Some a → (w : ℕ) × (t : ℕ) × (answer.witness ≡ Some w)
+    × (slice_get facts w ≡ Some (fact.Concept a t))
 witness_key facts answer a = go answer.witness refl
   where
-    at : (w : ℕ) (o : Option Fact) → answer.witness ≡ Some w → slice_get facts w ≡ o → option_and_then name_of o ≡ Some a → (w : ℕ) × (t : ℕ) × (answer.witness ≡ Some w) × (slice_get facts w ≡ Some (fact.Concept a t))
+    at : (w : ℕ) (o : Option Fact) → answer.witness ≡ Some w → slice_get facts w ≡ o → option_and_then name_of o ≡ Some a → (w : ℕ) × (t : ℕ)
+        × (answer.witness ≡ Some w) × (slice_get facts w ≡ Some (fact.Concept a t))
     at w None e d h = absurd (none-some a h)
     at w (Some f) e d h = let v = name_of_fact_at f a h in (w, v.0, e, d ∙ ap Some v.1)
 
-    go : (o : Option ℕ) → answer.witness ≡ o → option_and_then (λ w. option_and_then name_of (slice_get facts w)) o ≡ Some a → (w : ℕ) × (t : ℕ) × (answer.witness ≡ Some w) × (slice_get facts w ≡ Some (fact.Concept a t))
+    go : (o : Option ℕ) → answer.witness ≡ o → option_and_then (λ w. option_and_then name_of (slice_get facts w)) o ≡ Some a → (w : ℕ) × (t : ℕ)
+        × (answer.witness ≡ Some w) × (slice_get facts w ≡ Some (fact.Concept a t))
     go None e h = absurd (none-some a h)
     go (Some w) e h = at w (slice_get facts w) e refl h
 
 -- the key of an answer in a list
-key_at : (facts : List Fact) (answers : List Answer) (p a : ℕ) → HasKey (map (name_of_witness facts) answers) p a → (answer : Answer) × (slice_get answers p ≡ Some answer) × (name_of_witness facts answer ≡ Some a)
+key_at : (facts : List Fact) (answers : List Answer) (p a : ℕ) → HasKey (map (name_of_witness facts) answers) p a → (answer : Answer)
+    × (slice_get answers p ≡ Some answer) × (name_of_witness facts answer ≡ Some a)
 key_at facts [] p a e = absurd (none-some (Some a) e)
 key_at facts (answer ∷ answers) zero a e = (answer, refl, same_Some (name_of_witness facts answer) (Some a) e)
 key_at facts (answer ∷ answers) (suc p) a e = key_at facts answers p a e
@@ -74,7 +80,8 @@ names_below n m facts answers h p a e =
     (fact_below n m facts h w.0 a w.1 w.3).0
 
 -- the key of an answer with a witness
-pub key_of : (facts : List Fact) (answers : List Answer) (p w a t : ℕ) (answer : Answer) → slice_get answers p ≡ Some answer → answer.witness ≡ Some w → slice_get facts w ≡ Some (fact.Concept a t) → HasKey (map (name_of_witness facts) answers) p a
+pub key_of : (facts : List Fact) (answers : List Answer) (p w a t : ℕ) (answer : Answer) → slice_get answers p ≡ Some answer → answer.witness ≡ Some w
+    → slice_get facts w ≡ Some (fact.Concept a t) → HasKey (map (name_of_witness facts) answers) p a
 key_of facts answers p w a t answer at e d =
     slice_get-map (name_of_witness facts) answers p ∙ ap (option_map (name_of_witness facts)) at
     ∙ ap (λ o. Some (option_and_then (λ v. option_and_then name_of (slice_get facts v)) o)) e ∙ ap (λ o. Some (option_and_then name_of o)) d
@@ -91,7 +98,8 @@ same_read (x ∷ xs) (suc i) l d = same_read xs i (omega (arith, l)) d
 pub fact_read : (facts lent : List Fact) (j : ℕ) (d f : Fact) → lent ≡ facts → j < length facts → get_or lent j d ≡ f → slice_get facts j ≡ Some f
 fact_read facts lent j d f e l is = slice_get-get_or facts j d l ∙ ap (λ fs. Some (get_or fs j d)) (sym e) ∙ ap Some is
 
-module _ (kb : Knowledge) (standings : List (Option Standing)) (numbers : List (List ℕ)) (right : AreFactNumbers kb standings numbers) (j b t : ℕ) (at : slice_get kb.facts j ≡ Some (fact.Concept b t)) where
+module _ (kb : Knowledge) (standings : List (Option Standing)) (numbers : List (List ℕ)) (right : AreFactNumbers kb standings numbers) (j b t : ℕ)
+    (at : slice_get kb.facts j ≡ Some (fact.Concept b t)) where
   -- the fact's own name, in whatever way it is a rival
   own_name : (a : ℕ) → IsRival kb a j → (¬ IsUnsatisfiable kb.axioms b) × AreApart kb.axioms a b
   own_name a (x, u, e, safe, p) =
@@ -146,7 +154,8 @@ module _ (kb : Knowledge) (apart items : List ℕ) (i : ℕ) (numbers : List ℕ
   }
 
   -- a number that is one, where the numbers ascend
-  pub rivals_push : IsAscending items → ((a : ℕ) → AreNamesApart kb.axioms a apart → IsRival kb a (get_or items i 0)) → AreRivalsAmong kb apart (take (i + 1) items) (numbers ++ get_or items i 0 ∷ [])
+  pub rivals_push : IsAscending items → ((a : ℕ) → AreNamesApart kb.axioms a apart → IsRival kb a (get_or items i 0))
+      → AreRivalsAmong kb apart (take (i + 1) items) (numbers ++ get_or items i 0 ∷ [])
   rivals_push ascends rival = record {
     exact = λ a n j. (
       (λ c. elim (Contains-push_cases numbers (get_or items i 0) j c) [
@@ -162,7 +171,8 @@ module _ (kb : Knowledge) (apart items : List ℕ) (i : ℕ) (numbers : List ℕ
       | inl o ↦ Contains-take_old items i 0 j l (h.members j o)
       | inr e ↦ Contains-take_new items i 0 j l e
     ];
-    ascending = all_pairs_push (λ x y. x < y) numbers (get_or items i 0) h.ascending (λ k d m. before (get_or numbers k d) (h.members (get_or numbers k d) (Contains-get_or numbers k d m)));
+    ascending = all_pairs_push (λ x y. x < y) numbers (get_or items i 0) h.ascending
+        (λ k d m. before (get_or numbers k d) (h.members (get_or numbers k d) (Contains-get_or numbers k d m)));
   }
     where
       before : (j : ℕ) → Contains (take i items) j → j < get_or items i 0
@@ -171,9 +181,11 @@ module _ (kb : Knowledge) (apart items : List ℕ) (i : ℕ) (numbers : List ℕ
           let at : get_or items k j ≡ j = sym (get_or-take i items k j less) ∙ e in
           subst (λ x. x < get_or items i 0) at (subst (λ x. get_or items k j < x) (same_read items i l j) (ascends k i j less l))
 
-module _ (law : ConceptNameConflicts) (kb : Knowledge) (standings : List (Option Standing)) (numbers : List (List ℕ)) (right : AreFactNumbers kb standings numbers) where
+module _ (law : ConceptNameConflicts) (kb : Knowledge) (standings : List (Option Standing)) (numbers : List (List ℕ))
+    (right : AreFactNumbers kb standings numbers) where
   clash : (i j : ℕ) → Conflict kb i j ↔ ClashByNames kb i j
-  clash = law kb (All-weaker _ _ (names_of (length standings)) kb.axioms right.axioms) (All-weaker _ _ (name_of_fact (length standings) (length numbers)) kb.facts right.facts)
+  clash = law kb (All-weaker _ _ (names_of (length standings)) kb.axioms right.axioms)
+      (All-weaker _ _ (name_of_fact (length standings) (length numbers)) kb.facts right.facts)
 
   -- a name that is apart from itself is unsatisfiable
   apart_itself : (a : ℕ) → AreApart kb.axioms a a → IsUnsatisfiable kb.axioms a
@@ -188,7 +200,8 @@ module _ (law : ConceptNameConflicts) (kb : Knowledge) (standings : List (Option
       slice_get_within kb.facts j (fact.Concept k.0 t) k.1
 
   -- the rivals among the facts of an individual are those that conflict
-  pub conflicts_found : (t : ℕ) (apart items found : List ℕ) → items ≡ names_at numbers t → AreRivalsAmong kb apart items found → AreConflictsOf kb t apart found
+  pub conflicts_found : (t : ℕ) (apart items found : List ℕ) → items ≡ names_at numbers t → AreRivalsAmong kb apart items found
+      → AreConflictsOf kb t apart found
   conflicts_found t apart items found e h a w at safe names = record {
     exact = λ j. (to j, from j);
     ascending = h.ascending;
@@ -237,20 +250,24 @@ module _ (law : ConceptNameConflicts) (kb : Knowledge) (standings : List (Option
 
 -- AT THE PLACES OF ANSWERS
 
-pub filled_none : (kb : Knowledge) (answers : List Answer) (apart places : List ℕ) (lists : List (List ℕ)) → AreFilled kb answers apart (take 0 places) lists lists
+pub filled_none : (kb : Knowledge) (answers : List Answer) (apart places : List ℕ) (lists : List (List ℕ))
+    → AreFilled kb answers apart (take 0 places) lists lists
 filled_none kb answers apart places lists = record {
   filled = λ p answer c. absurd (omega (arith, c.1));
   others = λ p n. refl;
 }
 
-pub filled_more : (kb : Knowledge) (answers : List Answer) (apart places : List ℕ) (i : ℕ) (old lists : List (List ℕ)) (at : ℕ) (answer : Answer) (found : List ℕ) → i < length places → get_or places i 0 ≡ at → at < length lists → slice_get answers at ≡ Some answer
-    → AreConflictsOf kb answer.individual apart found → AreFilled kb answers apart (take i places) old lists → AreFilled kb answers apart (take (i + 1) places) old (set lists at found)
+pub filled_more : (kb : Knowledge) (answers : List Answer) (apart places : List ℕ) (i : ℕ) (old lists : List (List ℕ)) (at : ℕ) (answer : Answer)
+    (found : List ℕ) → i < length places → get_or places i 0 ≡ at → at < length lists → slice_get answers at ≡ Some answer
+    → AreConflictsOf kb answer.individual apart found → AreFilled kb answers apart (take i places) old lists
+    → AreFilled kb answers apart (take (i + 1) places) old (set lists at found)
 filled_more kb answers apart places i old lists at answer found l e within is right h = record {
   filled = λ p other c d. filled p other c d (cases_eq p at);
   others = λ p n. others p n (cases_eq p at);
 }
   where
-    filled : (p : ℕ) (other : Answer) → Contains (take (i + 1) places) p → slice_get answers p ≡ Some other → (p ≡ at) ⊎ (p ≡ at → ⊥) → AreConflictsOf kb other.individual apart (names_at (set lists at found) p)
+    filled : (p : ℕ) (other : Answer) → Contains (take (i + 1) places) p → slice_get answers p ≡ Some other → (p ≡ at) ⊎ (p ≡ at → ⊥)
+        → AreConflictsOf kb other.individual apart (names_at (set lists at found) p)
     filled p other c d (inl q) =
         let same : answer ≡ other = same_Some answer other (sym is ∙ ap (slice_get answers) (sym q) ∙ d) in
         let read : names_at (set lists at found) p ≡ found = ap (names_at (set lists at found)) q ∙ get_or-set_same lists at found [] within in
@@ -263,7 +280,8 @@ filled_more kb answers apart places i old lists at answer found l e within is ri
     others p n (inl q) = absurd (n (Contains-take_new places i 0 p l (e ∙ sym q)))
     others p n (inr d) = get_or-set_other lists at p found [] d ∙ h.others p (λ c. n (Contains-take_old places i 0 p l c))
 
-pub filled_all : (kb : Knowledge) (answers : List Answer) (apart places : List ℕ) (i : ℕ) (old lists : List (List ℕ)) → length places ≤ i → AreFilled kb answers apart (take i places) old lists → AreFilled kb answers apart places old lists
+pub filled_all : (kb : Knowledge) (answers : List Answer) (apart places : List ℕ) (i : ℕ) (old lists : List (List ℕ)) → length places ≤ i
+    → AreFilled kb answers apart (take i places) old lists → AreFilled kb answers apart places old lists
 filled_all kb answers apart places i old lists l h = subst (λ ps. AreFilled kb answers apart ps old lists) (take_all i places l) h
 
 -- the lists of the answers whose witnesses are of the first names have been filled
@@ -272,7 +290,8 @@ AreFilledBelow kb answers places k lists = (a p w : ℕ) (answer : Answer) → a
     → slice_get kb.facts w ≡ Some (fact.Concept a answer.individual) → (¬ IsUnsatisfiable kb.axioms a) → AreConflictsWith kb w (names_at lists p)
 
 -- a name without an answer
-pub filled_below_skip : (kb : Knowledge) (answers : List Answer) (places lists : List (List ℕ)) (k : ℕ) → names_at places k ≡ [] → AreFilledBelow kb answers places k lists → AreFilledBelow kb answers places (k + 1) lists
+pub filled_below_skip : (kb : Knowledge) (answers : List Answer) (places lists : List (List ℕ)) (k : ℕ) → names_at places k ≡ []
+    → AreFilledBelow kb answers places k lists → AreFilledBelow kb answers places (k + 1) lists
 filled_below_skip kb answers places lists k e h a p w answer l c at f safe = go (cases_eq a k)
   where
     go : (a ≡ k) ⊎ (a ≡ k → ⊥) → AreConflictsWith kb w (names_at lists p)
@@ -282,26 +301,31 @@ filled_below_skip kb answers places lists k e h a p w answer l c at f safe = go 
     go (inr n) = h a p w answer (omega (arith, l, n)) c at f safe
 
 -- and one more name
-pub filled_below_more : (kb : Knowledge) (answers : List Answer) (keys : List (Option ℕ)) (places lists new : List (List ℕ)) (k : ℕ) (apart here : List ℕ) → ArePlaces keys places → here ≡ names_at places k → AreNamesApart kb.axioms k apart
+pub filled_below_more : (kb : Knowledge) (answers : List Answer) (keys : List (Option ℕ)) (places lists new : List (List ℕ)) (k : ℕ) (apart here : List ℕ)
+    → ArePlaces keys places → here ≡ names_at places k → AreNamesApart kb.axioms k apart
     → AreFilled kb answers apart here lists new → AreFilledBelow kb answers places k lists → AreFilledBelow kb answers places (k + 1) new
 filled_below_more kb answers keys places lists new k apart here right e names filled h a p w answer l c at f safe = go (cases_eq a k)
   where
     go : (a ≡ k) ⊎ (a ≡ k → ⊥) → AreConflictsWith kb w (names_at new p)
     go (inl q) =
-        filled.filled p answer (subst (λ ns. Contains ns p) (ap (names_at places) q ∙ sym e) c) at k w (f ∙ ap (λ x. Some (fact.Concept x answer.individual)) q) (λ u. safe (subst (IsUnsatisfiable kb.axioms) (sym q) u)) names
+        filled.filled p answer (subst (λ ns. Contains ns p) (ap (names_at places) q ∙ sym e) c) at k w
+        (f ∙ ap (λ x. Some (fact.Concept x answer.individual)) q) (λ u. safe (subst (IsUnsatisfiable kb.axioms) (sym q) u)) names
     go (inr n) =
-        let apart_from : ¬ Contains here p = λ d. n (same_Some a k (same_Some (Some a) (Some k) (sym ((right.exact a p).0 c) ∙ (right.exact k p).0 (subst (λ ns. Contains ns p) e d)))) in
+        let apart_from : ¬ Contains here p = λ d. n (same_Some a k (same_Some (Some a) (Some k)
+        (sym ((right.exact a p).0 c) ∙ (right.exact k p).0 (subst (λ ns. Contains ns p) e d)))) in
         subst (AreConflictsWith kb w) (sym (filled.others p apart_from)) (h a p w answer (omega (arith, l, n)) c at f safe)
 
 -- what holds place by place
-by_places : {A B : Type 0} (R : A → B → Type 0) (xs : List A) (ys : List B) → length ys ≡ length xs → ((p : ℕ) (x : A) (y : B) → slice_get xs p ≡ Some x → slice_get ys p ≡ Some y → R x y) → AllZip R xs ys
+by_places : {A B : Type 0} (R : A → B → Type 0) (xs : List A) (ys : List B) → length ys ≡ length xs
+    → ((p : ℕ) (x : A) (y : B) → slice_get xs p ≡ Some x → slice_get ys p ≡ Some y → R x y) → AllZip R xs ys
 by_places R [] [] e h = tt
 by_places R [] (y ∷ ys) e h = absurd (omega (arith, e))
 by_places R (x ∷ xs) [] e h = absurd (omega (arith, e))
 by_places R (x ∷ xs) (y ∷ ys) e h = (h 0 x y refl refl, by_places R xs ys (omega (arith, e)) (λ p u v a b. h (suc p) u v a b))
 
 -- the lists of all answers
-pub all_filled : (kb : Knowledge) (answers : List Answer) (places lists : List (List ℕ)) (k : ℕ) → ArePlaces (map (name_of_witness kb.facts) answers) places → ((a p : ℕ) → Contains (names_at places a) p → a < k) → All (HasSafeWitness kb) answers
+pub all_filled : (kb : Knowledge) (answers : List Answer) (places lists : List (List ℕ)) (k : ℕ) → ArePlaces (map (name_of_witness kb.facts) answers) places
+    → ((a p : ℕ) → Contains (names_at places a) p → a < k) → All (HasSafeWitness kb) answers
     → length lists ≡ length answers → AreFilledBelow kb answers places k lists → AllZip (HasConflicts kb) answers lists
 all_filled kb answers places lists k right below safe size h = by_places (HasConflicts kb) answers lists size each
   where
@@ -315,7 +339,8 @@ all_filled kb answers places lists k right below safe size h = by_places (HasCon
             subst (AreConflictsWith kb w) (get_or_from_slice_get lists p numbers [] is) (h a p w answer (below a p c) c at f u)
 
 -- the places are those of answers
-pub places_below : (facts : List Fact) (answers : List Answer) (places : List (List ℕ)) (name : ℕ) (here : List ℕ) → ArePlaces (map (name_of_witness facts) answers) places → here ≡ names_at places name → All (λ p. p < length answers) here
+pub places_below : (facts : List Fact) (answers : List Answer) (places : List (List ℕ)) (name : ℕ) (here : List ℕ)
+    → ArePlaces (map (name_of_witness facts) answers) places → here ≡ names_at places name → All (λ p. p < length answers) here
 places_below facts answers places name here right e k d l =
     let p = get_or here k d in
     let key = (right.exact name p).0 (subst (λ ns. Contains ns p) e (Contains-get_or here k d l)) in

@@ -1,5 +1,6 @@
 -- Elements of a list after a write, and members of its first elements.
-use Rattle.std.proofs.Common.{◌≡◌, ℕ, zero, suc, ◌+◌, ◌<◌, ◌≤◌, ◌≢◌, ◌⊎◌, List, [], ◌∷◌, ◌++◌, Contains, length, refl, sym, subst, ap, ◌∙◌, arith, slice_get, Some, take, drop, set, get_or, replicate}
+use Rattle.std.proofs.Common.{◌≡◌, ℕ, zero, suc, ◌+◌, ◌<◌, ◌≤◌, ◌≢◌, ◌⊎◌, List, [], ◌∷◌, ◌++◌, Contains, length, refl, sym, subst, ap, ◌∙◌, arith, slice_get}
+use Rattle.std.proofs.Common.{Some, take, drop, set, get_or, replicate}
 use Rattle.std.proofs.lemmas.List.{take_more, take_all, take_at, get_or_read}
 use Rattle.std.proofs.lemmas.List.Elements.{Contains-push_cases, Contains-append_left, Contains-push}
 use Rattle.std.proofs.lemmas.Option.{none-some}
@@ -38,7 +39,8 @@ slice_get-Contains (y ∷ xs) x (zero, l, e) = (0, ap Some e)
 slice_get-Contains (y ∷ xs) x (suc k, l, e) = let w = slice_get-Contains xs x (k, omega arith, e) in (suc w.0, w.1)
 
 -- the members of one element more
-pub Contains-take_cases : {X : Type 0} (xs : List X) (i : ℕ) (d x : X) → i < length xs → Contains (take (i + 1) xs) x → Contains (take i xs) x ⊎ (get_or xs i d ≡ x)
+pub Contains-take_cases : {X : Type 0} (xs : List X) (i : ℕ) (d x : X) → i < length xs → Contains (take (i + 1) xs) x → Contains (take i xs) x
+    ⊎ (get_or xs i d ≡ x)
 Contains-take_cases xs i d x l c =
     Contains-push_cases (take i xs) (get_or xs i d) x (subst (λ ys. Contains ys x) (take_more xs i d l) c)
 
@@ -48,7 +50,8 @@ Contains-take_old xs i d x l c =
 
 pub Contains-take_new : {X : Type 0} (xs : List X) (i : ℕ) (d x : X) → i < length xs → get_or xs i d ≡ x → Contains (take (i + 1) xs) x
 Contains-take_new xs i d x l e =
-    subst (λ ys. Contains ys x) (sym (take_more xs i d l)) (subst (λ y. Contains (take i xs ++ get_or xs i d ∷ []) y) e (Contains-push (take i xs) (get_or xs i d)))
+    subst (λ ys. Contains ys x) (sym (take_more xs i d l)) (subst (λ y. Contains (take i xs ++ get_or xs i d ∷ []) y) e
+    (Contains-push (take i xs) (get_or xs i d)))
 
 -- and of all
 pub Contains-take_all : {X : Type 0} (xs : List X) (i : ℕ) (x : X) → length xs ≤ i → Contains (take i xs) x → Contains xs x

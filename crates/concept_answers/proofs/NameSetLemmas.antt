@@ -1,5 +1,6 @@
 -- A set of names and its marks.
-use Rattle.std.proofs.Common.{◌≡◌, ℕ, zero, suc, ◌+◌, ◌<◌, ◌≤◌, ◌⊎◌, ◌↔◌, inl, inr, List, [], ◌∷◌, ◌++◌, All, Contains, length, refl, sym, subst, ap, ◌∙◌, arith, Bool, true, false, cond, ◌==◌, eqb-true, eq-eqb, true≢false, slice_get, Some, take, set, get_or, replicate, count_by}
+use Rattle.std.proofs.Common.{◌≡◌, ℕ, zero, suc, ◌+◌, ◌<◌, ◌≤◌, ◌⊎◌, ◌↔◌, inl, inr, List, [], ◌∷◌, ◌++◌, All, Contains, length, refl, sym, subst, ap, ◌∙◌}
+use Rattle.std.proofs.Common.{arith, Bool, true, false, cond, ◌==◌, eqb-true, eq-eqb, true≢false, slice_get, Some, take, set, get_or, replicate, count_by}
 use Rattle.std.specs.List.{list_any, fold}
 use Rattle.std.proofs.lemmas.Bool.{cases_Bool, cases_eq}
 use Rattle.std.proofs.lemmas.List.{length-append, get_or_append_left}
@@ -8,10 +9,12 @@ use Rattle.std.proofs.lemmas.List.Folds.{Any-from_list_any, list_any_at, sum_by-
 use Rattle.std.proofs.lemmas.List.Sums.{sum_by-set}
 use Rattle.std.proofs.lemmas.Option.{slice_get_within, get_or_from_slice_get, same_Some}
 use Rattle.concept_answers.specs.NameSets.{Members, AreMarked, with_name, Unmarks}
-use Rattle.concept_answers.proofs.ListLemmas.{slice_get-set_same, slice_get-set_other, slice_get-replicate, Contains-take_cases, Contains-take_old, Contains-take_new, Contains-take_all, Contains-all_taken}
+use Rattle.concept_answers.proofs.ListLemmas.{slice_get-set_same, slice_get-set_other, slice_get-replicate, Contains-take_cases, Contains-take_old}
+use Rattle.concept_answers.proofs.ListLemmas.{Contains-take_new, Contains-take_all, Contains-all_taken}
 
 -- a name that is put in was there, or goes last
-pub with_name_cases : (names : List ℕ) (name : ℕ) → (Contains names name × (with_name names name ≡ names)) ⊎ ((¬ Contains names name) × (with_name names name ≡ names ++ name ∷ []))
+pub with_name_cases : (names : List ℕ) (name : ℕ) → (Contains names name × (with_name names name ≡ names))
+    ⊎ ((¬ Contains names name) × (with_name names name ≡ names ++ name ∷ []))
 with_name_cases names name = go (cases_Bool (list_any is_name names))
   where
     is_name : ℕ → Bool
@@ -20,7 +23,8 @@ with_name_cases names name = go (cases_Bool (list_any is_name names))
     chosen : (b : Bool) → list_any (λ other. other == name) names ≡ b → with_name names name ≡ cond b names (names ++ name ∷ [])
     chosen b e = ap (λ c. cond c names (names ++ name ∷ [])) e
 
-    go : (list_any (λ other. other == name) names ≡ true) ⊎ (list_any (λ other. other == name) names ≡ false) → (Contains names name × (with_name names name ≡ names)) ⊎ ((¬ Contains names name) × (with_name names name ≡ names ++ name ∷ []))
+    go : (list_any (λ other. other == name) names ≡ true) ⊎ (list_any (λ other. other == name) names ≡ false)
+        → (Contains names name × (with_name names name ≡ names)) ⊎ ((¬ Contains names name) × (with_name names name ≡ names ++ name ∷ []))
     go (inl t) =
         let (k, x, l, e, p) = Any-from_list_any (λ other. other == name) names t in
         let same : x ≡ name = eqb-true x name p in
@@ -33,11 +37,13 @@ with_name_cases names name = go (cases_Bool (list_any is_name names))
 pub Contains-with_name : (names : List ℕ) (name b : ℕ) → Contains (with_name names name) b ↔ (Contains names b ⊎ (name ≡ b))
 Contains-with_name names name b = (to (with_name_cases names name), from (with_name_cases names name))
   where
-    to : (Contains names name × (with_name names name ≡ names)) ⊎ ((¬ Contains names name) × (with_name names name ≡ names ++ name ∷ [])) → Contains (with_name names name) b → Contains names b ⊎ (name ≡ b)
+    to : (Contains names name × (with_name names name ≡ names)) ⊎ ((¬ Contains names name) × (with_name names name ≡ names ++ name ∷ []))
+        → Contains (with_name names name) b → Contains names b ⊎ (name ≡ b)
     to (inl (c, e)) h = inl (subst (λ ns. Contains ns b) e h)
     to (inr (n, e)) h = Contains-push_cases names name b (subst (λ ns. Contains ns b) e h)
 
-    from : (Contains names name × (with_name names name ≡ names)) ⊎ ((¬ Contains names name) × (with_name names name ≡ names ++ name ∷ [])) → Contains names b ⊎ (name ≡ b) → Contains (with_name names name) b
+    from : (Contains names name × (with_name names name ≡ names)) ⊎ ((¬ Contains names name) × (with_name names name ≡ names ++ name ∷ [])) → Contains names b
+        ⊎ (name ≡ b) → Contains (with_name names name) b
     from (inl (c, e)) (inl h) = subst (λ ns. Contains ns b) (sym e) h
     from (inl (c, e)) (inr d) = subst (λ ns. Contains ns b) (sym e) (subst (Contains names) d c)
     from (inr (n, e)) (inl h) = subst (λ ns. Contains ns b) (sym e) (Contains-append_left names (name ∷ []) b h)
@@ -45,10 +51,12 @@ Contains-with_name names name b = (to (with_name_cases names name), from (with_n
         subst (λ ns. Contains ns b) (sym e) (subst (Contains (names ++ name ∷ [])) d (Contains-push names name))
 
 -- what is put in after another keeps its place
-pub get_or-with_name : (names : List ℕ) (name k d : ℕ) → k < length names → (get_or (with_name names name) k d ≡ get_or names k d) × (k < length (with_name names name))
+pub get_or-with_name : (names : List ℕ) (name k d : ℕ) → k < length names → (get_or (with_name names name) k d ≡ get_or names k d)
+    × (k < length (with_name names name))
 get_or-with_name names name k d l = go (with_name_cases names name)
   where
-    go : (Contains names name × (with_name names name ≡ names)) ⊎ ((¬ Contains names name) × (with_name names name ≡ names ++ name ∷ [])) → (get_or (with_name names name) k d ≡ get_or names k d) × (k < length (with_name names name))
+    go : (Contains names name × (with_name names name ≡ names)) ⊎ ((¬ Contains names name) × (with_name names name ≡ names ++ name ∷ []))
+        → (get_or (with_name names name) k d ≡ get_or names k d) × (k < length (with_name names name))
     go (inl (c, e)) = (ap (λ ns. get_or ns k d) e, subst (λ ns. k < length ns) (sym e) l)
     go (inr (n, e)) = (
       ap (λ ns. get_or ns k d) e ∙ get_or_append_left names (name ∷ []) d k l,
@@ -72,7 +80,8 @@ Contains-with_names (x ∷ more) names b =
     from (inr (zero, l, e)) = inl ((Contains-with_name names x b).1 (inr e))
     from (inr (suc k, l, e)) = inr (k, omega arith, e)
 
-pub get_or-with_names : (more names : List ℕ) (k d : ℕ) → k < length names → (get_or (fold with_name names more) k d ≡ get_or names k d) × (k < length (fold with_name names more))
+pub get_or-with_names : (more names : List ℕ) (k d : ℕ) → k < length names → (get_or (fold with_name names more) k d ≡ get_or names k d)
+    × (k < length (fold with_name names more))
 get_or-with_names [] names k d l = (refl, l)
 get_or-with_names (x ∷ more) names k d l =
     let one = get_or-with_name names x k d l in
@@ -87,7 +96,8 @@ AreMarked-none n = record {
 }
 
 -- one more
-pub AreMarked-more : (marks : List Bool) (names : List ℕ) (name : ℕ) → AreMarked marks names → name < length marks → slice_get marks name ≡ Some false → AreMarked (set marks name true) (names ++ name ∷ [])
+pub AreMarked-more : (marks : List Bool) (names : List ℕ) (name : ℕ) → AreMarked marks names → name < length marks → slice_get marks name ≡ Some false
+    → AreMarked (set marks name true) (names ++ name ∷ [])
 AreMarked-more marks names name h l f = record {
   marked = λ b. (to b (cases_eq b name), λ c. from b (Contains-push_cases names name b c) (cases_eq b name));
   once = once;
@@ -114,8 +124,10 @@ AreMarked-more marks names name h l f = record {
 pub same_with_name : (marks : List Bool) (names : List ℕ) (name : ℕ) → AreMarked marks names → slice_get marks name ≡ Some true → names ≡ with_name names name
 same_with_name marks names name h t = elim (with_name_cases names name) [ inl (c, e) ↦ sym e | inr (n, e) ↦ absurd (n ((h.marked name).0 t)) ]
 
-pub new_with_name : (marks : List Bool) (names : List ℕ) (name : ℕ) → AreMarked marks names → slice_get marks name ≡ Some false → names ++ name ∷ [] ≡ with_name names name
-new_with_name marks names name h f = elim (with_name_cases names name) [ inl (c, e) ↦ absurd (true≢false (same_Some true false (sym ((h.marked name).1 c) ∙ f))) | inr (n, e) ↦ sym e ]
+pub new_with_name : (marks : List Bool) (names : List ℕ) (name : ℕ) → AreMarked marks names → slice_get marks name ≡ Some false
+    → names ++ name ∷ [] ≡ with_name names name
+new_with_name marks names name h f = elim (with_name_cases names name)
+    [ inl (c, e) ↦ absurd (true≢false (same_Some true false (sym ((h.marked name).1 c) ∙ f))) | inr (n, e) ↦ sym e ]
 
 -- a mark is of a name in the list
 pub names_within : (marks : List Bool) (names : List ℕ) → AreMarked marks names → All (λ name. name < length marks) names
@@ -134,27 +146,35 @@ UnmarksFirst names old i new = (b : ℕ) → (slice_get new b ≡ Some true) ↔
 pub UnmarksFirst-none : (names : List ℕ) (old : List Bool) → UnmarksFirst names old 0 old
 UnmarksFirst-none names old b = ((λ t. (t, λ (k, l, e). absurd (omega (arith, l)))), (λ p. p.0))
 
-pub UnmarksFirst-more : (names : List ℕ) (old new : List Bool) (i : ℕ) → i < length names → get_or names i 0 < length new → UnmarksFirst names old i new → UnmarksFirst names old (i + 1) (set new (get_or names i 0) false)
+pub UnmarksFirst-more : (names : List ℕ) (old new : List Bool) (i : ℕ) → i < length names → get_or names i 0 < length new → UnmarksFirst names old i new
+    → UnmarksFirst names old (i + 1) (set new (get_or names i 0) false)
 UnmarksFirst-more names old new i l m h b = (to (cases_eq b (get_or names i 0)), from (cases_eq b (get_or names i 0)))
   where
-    to : (b ≡ get_or names i 0) ⊎ (b ≡ get_or names i 0 → ⊥) → slice_get (set new (get_or names i 0) false) b ≡ Some true → (slice_get old b ≡ Some true) × ¬ Contains (take (i + 1) names) b
+    to : (b ≡ get_or names i 0) ⊎ (b ≡ get_or names i 0 → ⊥) → slice_get (set new (get_or names i 0) false) b ≡ Some true → (slice_get old b ≡ Some true)
+        × ¬ Contains (take (i + 1) names) b
     to (inl e) t =
         let s = slice_get-set_same new (get_or names i 0) false m in
-        let u : slice_get (set new (get_or names i 0) false) (get_or names i 0) ≡ Some true = subst (λ y. slice_get (set new (get_or names i 0) false) y ≡ Some true) e t in
+        let u : slice_get (set new (get_or names i 0) false) (get_or names i 0) ≡ Some true =
+        subst (λ y. slice_get (set new (get_or names i 0) false) y ≡ Some true) e t in
         absurd (true≢false (same_Some true false (sym u ∙ s)))
     to (inr n) t =
         let p = (h b).0 (sym (slice_get-set_other new (get_or names i 0) b false n) ∙ t) in
         (p.0, λ c. elim (Contains-take_cases names i 0 b l c) [ inl d ↦ p.1 d | inr e ↦ n (sym e) ])
 
-    from : (b ≡ get_or names i 0) ⊎ (b ≡ get_or names i 0 → ⊥) → (slice_get old b ≡ Some true) × (¬ Contains (take (i + 1) names) b) → slice_get (set new (get_or names i 0) false) b ≡ Some true
+    from : (b ≡ get_or names i 0) ⊎ (b ≡ get_or names i 0 → ⊥) → (slice_get old b ≡ Some true) × (¬ Contains (take (i + 1) names) b)
+        → slice_get (set new (get_or names i 0) false) b ≡ Some true
     from (inl e) p = absurd (p.1 (Contains-take_new names i 0 b l (sym e)))
     from (inr n) p =
         slice_get-set_other new (get_or names i 0) b false n ∙ (h b).1 (p.0, λ c. p.1 (Contains-take_old names i 0 b l c))
 
-pub Unmarks-all : (names : List ℕ) (old new : List Bool) (i : ℕ) → length names ≤ i → length new ≡ length old → UnmarksFirst names old i new → Unmarks names old new
+pub Unmarks-all : (names : List ℕ) (old new : List Bool) (i : ℕ) → length names ≤ i → length new ≡ length old → UnmarksFirst names old i new
+    → Unmarks names old new
 Unmarks-all names old new i l size h = record {
   size = size;
-  marked = λ b. ((λ t. let p = (h b).0 t in (p.0, λ c. p.1 (Contains-all_taken names i b l c))), (λ p. (h b).1 (p.0, λ c. p.1 (Contains-take_all names i b l c))));
+  marked = λ b. (
+    (λ t. let p = (h b).0 t in (p.0, λ c. p.1 (Contains-all_taken names i b l c))),
+    (λ p. (h b).1 (p.0, λ c. p.1 (Contains-take_all names i b l c))),
+  );
 }
 
 -- no mark is left
@@ -180,7 +200,8 @@ pub Members-same : (b d : ℕ) (ns ms : List ℕ) → b ≡ d → ns ≡ ms → 
 Members-same b d ns ms e f = ap (λ x. record { bound = x; names = ns }) e ∙ ap (λ xs. record { bound = d; names = xs }) f
 
 -- a set that a name changes nothing in
-pub Members-kept : (set : Members) (ns : List ℕ) (name : ℕ) → ns ≡ set.names → ns ≡ with_name ns name → set ≡ record { bound = set.bound; names = with_name set.names name }
+pub Members-kept : (set : Members) (ns : List ℕ) (name : ℕ) → ns ≡ set.names → ns ≡ with_name ns name
+    → set ≡ record { bound = set.bound; names = with_name set.names name }
 Members-kept set ns name d e = ap (λ xs. record { bound = set.bound; names = xs }) (sym d ∙ e ∙ ap (λ xs. with_name xs name) d)
 
 -- the same at equal lists

@@ -1,5 +1,6 @@
 -- The places of each key in the first items of a list.
-use Rattle.std.proofs.Common.{◌≡◌, ℕ, ◌+◌, ◌<◌, ◌≤◌, ◌⊎◌, ◌↔◌, inl, inr, List, [], ◌∷◌, ◌++◌, Contains, length, refl, sym, subst, ap, ◌∙◌, arith, Option, Some, None, slice_get, get_or, replicate}
+use Rattle.std.proofs.Common.{◌≡◌, ℕ, ◌+◌, ◌<◌, ◌≤◌, ◌⊎◌, ◌↔◌, inl, inr, List, [], ◌∷◌, ◌++◌, Contains, length, refl, sym, subst, ap, ◌∙◌, arith, Option}
+use Rattle.std.proofs.Common.{Some, None, slice_get, get_or, replicate}
 use Rattle.std.proofs.lemmas.Bool.{cases_eq}
 use Rattle.std.proofs.lemmas.List.{get_or-set_same, get_or-set_other, length-set}
 use Rattle.std.proofs.lemmas.List.Elements.{Contains-get_or}
@@ -71,12 +72,14 @@ module _ (keys : List (Option ℕ)) (i : ℕ) (lists : List (List ℕ)) (h : Are
 
       ascending : (k : ℕ) → (k ≡ key) ⊎ (k ≡ key → ⊥) → IsAscending (names_at (with_entry lists key i) k)
       ascending k (inl q) =
-          let pushed = all_pairs_push (λ x y. x < y) (names_at lists key) i (h.ascending key) (λ j d m. ((h.exact key (get_or (names_at lists key) j d)).0 (Contains-get_or (names_at lists key) j d m)).0) in
+          let pushed = all_pairs_push (λ x y. x < y) (names_at lists key) i (h.ascending key)
+          (λ j d m. ((h.exact key (get_or (names_at lists key) j d)).0 (Contains-get_or (names_at lists key) j d m)).0) in
           subst IsAscending (sym (ap (names_at (with_entry lists key i)) q ∙ get_or-set_same lists key (names_at lists key ++ i ∷ []) [] l)) pushed
       ascending k (inr n) = subst IsAscending (sym (get_or-set_other lists key k (names_at lists key ++ i ∷ []) [] n)) (h.ascending k)
 
   -- one more place
-  pub ArePlacesBelow-more : (key : Option ℕ) → slice_get keys i ≡ Some key → ((k : ℕ) → key ≡ Some k → k < length lists) → ArePlacesBelow keys (i + 1) (with_place lists key i)
+  pub ArePlacesBelow-more : (key : Option ℕ) → slice_get keys i ≡ Some key → ((k : ℕ) → key ≡ Some k → k < length lists)
+      → ArePlacesBelow keys (i + 1) (with_place lists key i)
   ArePlacesBelow-more None e l = skip e
   ArePlacesBelow-more (Some key) e l = add key e (l key refl)
 

@@ -1,5 +1,6 @@
 -- Lists of names the other way round.
-use Rattle.std.proofs.Common.{◌≡◌, ℕ, zero, suc, ◌+◌, ◌<◌, ◌≤◌, ◌⊎◌, ◌↔◌, inl, inr, List, [], ◌∷◌, Contains, length, refl, sym, subst, ap, ◌∙◌, arith, take, get_or, replicate}
+use Rattle.std.proofs.Common.{◌≡◌, ℕ, zero, suc, ◌+◌, ◌<◌, ◌≤◌, ◌⊎◌, ◌↔◌, inl, inr, List, [], ◌∷◌, Contains, length, refl, sym, subst, ap, ◌∙◌, arith, take}
+use Rattle.std.proofs.Common.{get_or, replicate}
 use Rattle.std.proofs.lemmas.Bool.{cases_eq}
 use Rattle.cq_terms.specs.declared.axioms.Axiom.{Axiom}
 use Rattle.cq_meaning.specs.ConceptNames.{Includes, IsSubsumed}
@@ -9,7 +10,8 @@ use Rattle.concept_answers.proofs.ListLemmas.{Contains-take_cases, Contains-take
 use Rattle.concept_answers.proofs.ClosureLemmas.{AddsPair-entry, inclusion-same, names_at-none}
 
 -- an entry adds its own pair
-pub with_entry-pairs : (lists : List (List ℕ)) (at name : ℕ) → at < length lists → (a b : ℕ) → Contains (names_at (with_entry lists at name) a) b ↔ (Contains (names_at lists a) b ⊎ ((at ≡ a) × (name ≡ b)))
+pub with_entry-pairs : (lists : List (List ℕ)) (at name : ℕ) → at < length lists → (a b : ℕ) → Contains (names_at (with_entry lists at name) a) b
+    ↔ (Contains (names_at lists a) b ⊎ ((at ≡ a) × (name ≡ b)))
 with_entry-pairs lists at name l a b = let h = AddsPair-entry inclusion inclusion-same lists at name l a b in (
   (λ c. elim (h.0 c) [ inl o ↦ inl o | inr e ↦ inr (inclusion-same at name a b e) ]),
   (λ s. h.1 (elim s [ inl o ↦ inl o | inr p ↦ inr (ap (λ x. inclusion x name) p.0 ∙ ap (inclusion a) p.1) ])),
@@ -50,7 +52,8 @@ AreTransposedBelow-none old n new e a b = (
   (λ (l, c). absurd (omega (arith, l))),
 )
 
-pub AreTransposedBelow-more : (old : List (List ℕ)) (k : ℕ) (others : List ℕ) (new more : List (List ℕ)) → others ≡ names_at old k → AddsPairsTo others k new more → AreTransposedBelow old k new → AreTransposedBelow old (k + 1) more
+pub AreTransposedBelow-more : (old : List (List ℕ)) (k : ℕ) (others : List ℕ) (new more : List (List ℕ)) → others ≡ names_at old k
+    → AddsPairsTo others k new more → AreTransposedBelow old k new → AreTransposedBelow old (k + 1) more
 AreTransposedBelow-more old k others new more e adds h a b = (to, from (cases_eq a k))
   where
     to : Contains (names_at more b) a → (a < k + 1) × Contains (names_at old a) b

@@ -1,5 +1,6 @@
 -- The normal form has no atom twice, and its body is in strict order.
-use Rattle.std.proofs.Common.{ℕ, suc, ◌<◌, slice_get, Some, ◌≡◌, ◌⊎◌, ◌↔◌, inl, inr, List, [], ◌∷◌, filter, Contains, arith, refl, sym, subst, ap, ◌∙◌, Bool, true, false, not, cond, true≢false}
+use Rattle.std.proofs.Common.{ℕ, suc, ◌<◌, slice_get, Some, ◌≡◌, ◌⊎◌, ◌↔◌, inl, inr, List, [], ◌∷◌, filter, Contains, arith, refl, sym, subst, ap, ◌∙◌, Bool}
+use Rattle.std.proofs.Common.{true, false, not, cond, true≢false}
 use Rattle.std.specs.Ordering.{is_le}
 use Rattle.std.specs.declared.cmp.Ordering.TheVariants.{Less}
 use Rattle.std.specs.List.{AllByRecursion, AllPairs}
@@ -28,7 +29,8 @@ apart_filter : (a : QAtom) (xs : List QAtom) → Apart a xs → filter (λ b. no
 apart_filter a [] h = refl
 apart_filter a (b ∷ xs) h = go (same_atom a b) refl (apart_filter a xs h.1)
   where
-    go : (c : Bool) → same_atom a b ≡ c → filter (λ b. not (same_atom a b)) xs ≡ xs → cond (not c) (b ∷ filter (λ b. not (same_atom a b)) xs) (filter (λ b. not (same_atom a b)) xs) ≡ b ∷ xs
+    go : (c : Bool) → same_atom a b ≡ c → filter (λ b. not (same_atom a b)) xs ≡ xs
+        → cond (not c) (b ∷ filter (λ b. not (same_atom a b)) xs) (filter (λ b. not (same_atom a b)) xs) ≡ b ∷ xs
     go true e d = absurd (h.0 (same_atom_is a b e))
     go false e d = ap (λ (l : List QAtom). b ∷ l) d
 
@@ -42,7 +44,8 @@ filter_apart : (a : QAtom) (xs : List QAtom) → Apart a (filter (λ b. not (sam
 filter_apart a [] = tt
 filter_apart a (b ∷ xs) = go (same_atom a b) refl (filter_apart a xs)
   where
-    go : (c : Bool) → same_atom a b ≡ c → Apart a (filter (λ b. not (same_atom a b)) xs) → Apart a (cond (not c) (b ∷ filter (λ b. not (same_atom a b)) xs) (filter (λ b. not (same_atom a b)) xs))
+    go : (c : Bool) → same_atom a b ≡ c → Apart a (filter (λ b. not (same_atom a b)) xs)
+        → Apart a (cond (not c) (b ∷ filter (λ b. not (same_atom a b)) xs) (filter (λ b. not (same_atom a b)) xs))
     go true e w = w
     go false e w = ((λ d. true≢false (sym (subst (λ (c : QAtom). same_atom a c ≡ true) d (same_self a)) ∙ e)), w)
 
@@ -113,11 +116,13 @@ abbrev Ascends : List QAtom → Type 0
 Ascends [] = Unit {0}
 Ascends (a ∷ xs) = AllByRecursion (λ b. atom_cmp a b ≡ Less) xs × Ascends xs
 
-all_before : (c a : QAtom) (xs : List QAtom) → atom_cmp c a ≡ Less → AllByRecursion (λ b. atom_cmp c b ≡ Less) xs → AllByRecursion (λ b. atom_cmp c b ≡ Less) (insert a xs)
+all_before : (c a : QAtom) (xs : List QAtom) → atom_cmp c a ≡ Less → AllByRecursion (λ b. atom_cmp c b ≡ Less) xs
+    → AllByRecursion (λ b. atom_cmp c b ≡ Less) (insert a xs)
 all_before c a [] e h = (e, tt)
 all_before c a (b ∷ xs) e h = go (is_le (atom_cmp a b)) (all_before c a xs e h.1)
   where
-    go : (k : Bool) → AllByRecursion (λ b. atom_cmp c b ≡ Less) (insert a xs) → AllByRecursion (λ b. atom_cmp c b ≡ Less) (cond k (a ∷ b ∷ xs) (b ∷ insert a xs))
+    go : (k : Bool) → AllByRecursion (λ b. atom_cmp c b ≡ Less) (insert a xs)
+        → AllByRecursion (λ b. atom_cmp c b ≡ Less) (cond k (a ∷ b ∷ xs) (b ∷ insert a xs))
     go true w = (e, h)
     go false w = (h.0, w)
 
@@ -150,7 +155,8 @@ insert_contains : (c a : QAtom) (xs : List QAtom) → Contains (insert a xs) c �
 insert_contains c a [] = (Contains-cases a [] c, λ w. elim w [ inl e ↦ first_contains a [] c e | inr h ↦ absurd (Contains-nil c h) ])
 insert_contains c a (b ∷ xs) = go (is_le (atom_cmp a b)) (insert_contains c a xs)
   where
-    go : (k : Bool) → Contains (insert a xs) c ↔ ((a ≡ c) ⊎ Contains xs c) → Contains (cond k (a ∷ b ∷ xs) (b ∷ insert a xs)) c ↔ ((a ≡ c) ⊎ Contains (b ∷ xs) c)
+    go : (k : Bool) → Contains (insert a xs) c ↔ ((a ≡ c) ⊎ Contains xs c) → Contains (cond k (a ∷ b ∷ xs) (b ∷ insert a xs)) c
+        ↔ ((a ≡ c) ⊎ Contains (b ∷ xs) c)
     go true w = (Contains-cases a (b ∷ xs) c, λ u. elim u [ inl e ↦ first_contains a (b ∷ xs) c e | inr h ↦ Contains-later a (b ∷ xs) c h ])
     go false w = (λ h. down (Contains-cases b (insert a xs) c h), up)
       where

@@ -14,11 +14,13 @@ All-of P xs h k d l = h _ (All-contains_itself xs k d l)
 
 -- ---- the numbers that have a property
 
-pub with_property : (P : ℕ → Type 0) → ((i : ℕ) → P i ⊎ (P i → ⊥)) → (n : ℕ) → (numbers : List ℕ) × IsAscending numbers × ((i : ℕ) → Contains numbers i ↔ ((i < n) × P i))
+pub with_property : (P : ℕ → Type 0) → ((i : ℕ) → P i ⊎ (P i → ⊥)) → (n : ℕ) → (numbers : List ℕ) × IsAscending numbers
+    × ((i : ℕ) → Contains numbers i ↔ ((i < n) × P i))
 with_property P decided zero = ([], (λ i j d ij l. absurd (omega arith)), λ i. ((λ c. absurd (Contains-nil i c)), (λ w. absurd (omega (arith, w.0)))))
 with_property P decided (suc n) = let w = with_property P decided n in go w.0 w.1 w.2 (decided n)
   where
-    go : (numbers : List ℕ) → IsAscending numbers → ((i : ℕ) → Contains numbers i ↔ ((i < n) × P i)) → P n ⊎ (P n → ⊥) → (numbers : List ℕ) × IsAscending numbers × ((i : ℕ) → Contains numbers i ↔ ((i < suc n) × P i))
+    go : (numbers : List ℕ) → IsAscending numbers → ((i : ℕ) → Contains numbers i ↔ ((i < n) × P i)) → P n ⊎ (P n → ⊥) → (numbers : List ℕ)
+        × IsAscending numbers × ((i : ℕ) → Contains numbers i ↔ ((i < suc n) × P i))
     go numbers a h (inr out) = (numbers, a, λ i. ((λ c. let w = (h i).0 c in (omega (arith, w.0), w.1)), (λ (l, p). (h i).1 (below i l p, p))))
       where
         below : (i : ℕ) → i < suc n → P i → i < n
@@ -50,11 +52,13 @@ module _ {X : Type 0} (R : X → X → Type 0) (asymmetric : (x y : X) → R x y
   rest_pairs : (x : X) (xs : List X) → AllPairs R (x ∷ xs) → AllPairs R xs
   rest_pairs x xs a i j d ij l = a (suc i) (suc j) d (omega arith) (omega arith)
 
-  pub pairs_same : (xs ys : List X) → AllPairs R xs → AllPairs R ys → ((x : X) → Contains xs x → Contains ys x) → ((x : X) → Contains ys x → Contains xs x) → xs ≡ ys
+  pub pairs_same : (xs ys : List X) → AllPairs R xs → AllPairs R ys → ((x : X) → Contains xs x → Contains ys x) → ((x : X) → Contains ys x → Contains xs x)
+      → xs ≡ ys
   pairs_same [] [] a b f g = refl
   pairs_same [] (y ∷ ys) a b f g = absurd (Contains-nil y (g y (Contains-head y ys)))
   pairs_same (x ∷ xs) [] a b f g = absurd (Contains-nil x (f x (Contains-head x xs)))
-  pairs_same (x ∷ xs) (y ∷ ys) a b f g = ap (λ z. z ∷ xs) first ∙ ap (λ (zs : List X). y ∷ zs) (pairs_same xs ys (rest_pairs x xs a) (rest_pairs y ys b) there back)
+  pairs_same (x ∷ xs) (y ∷ ys) a b f g = ap (λ z. z ∷ xs) first
+      ∙ ap (λ (zs : List X). y ∷ zs) (pairs_same xs ys (rest_pairs x xs a) (rest_pairs y ys b) there back)
     where
       first : x ≡ y
       first = elim (Contains-cases y ys x (f x (Contains-head x xs))) [
@@ -77,5 +81,6 @@ module _ {X : Type 0} (R : X → X → Type 0) (asymmetric : (x y : X) → R x y
         | inr d ↦ d
       ]
 
-pub ascending_same : (xs ys : List ℕ) → IsAscending xs → IsAscending ys → ((i : ℕ) → Contains xs i → Contains ys i) → ((i : ℕ) → Contains ys i → Contains xs i) → xs ≡ ys
+pub ascending_same : (xs ys : List ℕ) → IsAscending xs → IsAscending ys → ((i : ℕ) → Contains xs i → Contains ys i)
+    → ((i : ℕ) → Contains ys i → Contains xs i) → xs ≡ ys
 ascending_same xs ys a b f g = pairs_same (λ i j. i < j) (λ i j p q. omega arith) xs ys a b f g

@@ -25,7 +25,8 @@ abbrev Total : Ordering → Ordering → Type 0
 Total o o' = ((o ≡ Equal) × (o' ≡ Equal)) ⊎ ((o ≡ Less) ⊎ (o' ≡ Less))
 
 then_total : (o o' u u' : Ordering) → Total o o' → Total u u' → Total (ordering_then o u) (ordering_then o' u')
-then_total o o' u u' (inl (e, d)) t = subst (λ (x : Ordering). Total (ordering_then x u) (ordering_then o' u')) (sym e) (subst (λ (x : Ordering). Total u (ordering_then x u')) (sym d) t)
+then_total o o' u u' (inl (e, d)) t = subst (λ (x : Ordering). Total (ordering_then x u) (ordering_then o' u')) (sym e)
+    (subst (λ (x : Ordering). Total u (ordering_then x u')) (sym d) t)
 then_total o o' u u' (inr (inl e)) t = inr (inl (ap (λ (x : Ordering). ordering_then x u) e))
 then_total o o' u u' (inr (inr e)) t = inr (inr (ap (λ (x : Ordering). ordering_then x u') e))
 
@@ -180,7 +181,8 @@ term_self Any = refl
 atom_self : (a : QAtom) → atom_cmp a a ≡ Equal
 atom_self (atom.Concept p t) = ap (λ o. ordering_then o (term_cmp t t)) (nat_self p) ∙ term_self t
 atom_self (atom.Link p s t) =
-    ap (λ o. ordering_then o (ordering_then (term_cmp s s) (term_cmp t t))) (nat_self p) ∙ (ap (λ o. ordering_then o (term_cmp t t)) (term_self s) ∙ term_self t)
+    ap (λ o. ordering_then o (ordering_then (term_cmp s s) (term_cmp t t))) (nat_self p)
+    ∙ (ap (λ o. ordering_then o (term_cmp t t)) (term_self s) ∙ term_self t)
 
 pub not_both_ways : (a b : QAtom) → atom_cmp a b ≡ Less → atom_cmp b a ≡ Less → ⊥
 not_both_ways a b e d = let w = sym (less_trans a b a e d) ∙ atom_self a in absurd (cc)

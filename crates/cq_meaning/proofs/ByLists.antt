@@ -24,7 +24,8 @@ consistent_by_lists kb owns pairs exact S = (there, back)
     there c =
         let free = no_conflict_in_consistent kb S c in (
           All-of (λ i. ¬ S i) owns (λ i m s. let w = (exact.owns_exact i).0 m in free.own i w.0 s w.1),
-          All-of (λ p. ¬ (S p.0 × S p.1)) pairs (λ p m (s, t). let w = (exact.pairs_exact p.0 p.1).0 m in free.pairs p.0 p.1 (Conflict-within kb p.0 p.1 w.1) (Conflict-within kb p.1 p.0 (Conflict-sym kb p.0 p.1 w.1)) s t w.1),
+          All-of (λ p. ¬ (S p.0 × S p.1)) pairs (λ p m (s, t). let w = (exact.pairs_exact p.0 p.1).0 m in
+              free.pairs p.0 p.1 (Conflict-within kb p.0 p.1 w.1) (Conflict-within kb p.1 p.0 (Conflict-sym kb p.0 p.1 w.1)) s t w.1),
         )
 
     back : All (λ i. ¬ S i) owns × All (λ p. ¬ (S p.0 × S p.1)) pairs → AreConsistent kb S

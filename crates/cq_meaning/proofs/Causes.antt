@@ -1,5 +1,6 @@
 -- A consistent set that entails a tuple has a cause of it, and so causes tell the verdicts.
-use Rattle.std.proofs.Common.{◌≡◌, ℕ, zero, suc, ◌<◌, ◌≤◌, ◌⊎◌, ◌↔◌, inl, inr, List, [], ◌∷◌, length, filter, Contains, Some, refl, sym, subst, ap, ◌∙◌, arith, Bool, not, cond, ◌==◌, eq-eqb, ne_eqb}
+use Rattle.std.proofs.Common.{◌≡◌, ℕ, zero, suc, ◌<◌, ◌≤◌, ◌⊎◌, ◌↔◌, inl, inr, List, [], ◌∷◌, length, filter, Contains, Some, refl, sym, subst, ap, ◌∙◌}
+use Rattle.std.proofs.Common.{arith, Bool, not, cond, ◌==◌, eq-eqb, ne_eqb}
 use Rattle.std.proofs.lemmas.Bool.{cases_eq}
 use Rattle.std.proofs.lemmas.List.Elements.{All-contains}
 use Rattle.std.proofs.lemmas.List.Kept.{AllPairs-filter}
@@ -42,7 +43,8 @@ others_are i (x ∷ xs) l = go (cases_eq x i) (others_are i xs l)
         )
     go (inr ne) w =
         let d : others i (x ∷ xs) ≡ x ∷ others i xs = ap (λ b. cond (not b) (x ∷ others i xs) (others i xs)) (ne_eqb x i ne) in (
-          (λ (c, n). subst (λ (ys : List ℕ). Contains ys l) (sym d) (elim (Contains-cases x xs l c) [ inl k ↦ subst (Contains (x ∷ others i xs)) k (Contains-head x (others i xs)) | inr k ↦ Contains-later x (others i xs) l (w.0 (k, n)) ])),
+          (λ (c, n). subst (λ (ys : List ℕ). Contains ys l) (sym d) (elim (Contains-cases x xs l c)
+              [ inl k ↦ subst (Contains (x ∷ others i xs)) k (Contains-head x (others i xs)) | inr k ↦ Contains-later x (others i xs) l (w.0 (k, n)) ])),
           (λ c. elim (Contains-cases x (others i xs) l (subst (λ (ys : List ℕ). Contains ys l) d c)) [
             | inl k ↦ (subst (Contains (x ∷ xs)) k (Contains-head x xs), λ h. ne (k ∙ h))
             | inr k ↦ let u = w.1 k in (Contains-later x xs l u.0, u.1)
@@ -59,7 +61,8 @@ module _ (kb : Knowledge) (q : Query) (tuple : List ℕ) where
   -- ---- finitely many facts do
 
   -- numbers of the set for the facts of a list
-  numbers_for : (S : ℕ → Type 0) (image : List Fact) → ((f : Fact) → Contains image f → facts_in kb S f) → (numbers : List ℕ) × ((i : ℕ) → Contains numbers i → S i) × ((f : Fact) → Contains image f → facts_in kb (Contains numbers) f)
+  numbers_for : (S : ℕ → Type 0) (image : List Fact) → ((f : Fact) → Contains image f → facts_in kb S f) → (numbers : List ℕ)
+      × ((i : ℕ) → Contains numbers i → S i) × ((f : Fact) → Contains image f → facts_in kb (Contains numbers) f)
   numbers_for S [] h = ([], (λ i c. absurd (Contains-nil i c)), (λ f c. absurd (Contains-nil f c)))
   numbers_for S (g ∷ image) h = go (h g (Contains-head g image)) (numbers_for S image (λ f c. h f (Contains-later g image f c)))
     where
@@ -74,7 +77,8 @@ module _ (kb : Knowledge) (q : Query) (tuple : List ℕ) where
         ]),
       )
 
-  finitely_many : (S : ℕ → Type 0) → FactsEntail kb S q tuple → (numbers : List ℕ) × IsAscending numbers × ((i : ℕ) → Contains numbers i → S i) × FactsEntail kb (Contains numbers) q tuple
+  finitely_many : (S : ℕ → Type 0) → FactsEntail kb S q tuple → (numbers : List ℕ) × IsAscending numbers × ((i : ℕ) → Contains numbers i → S i)
+      × FactsEntail kb (Contains numbers) q tuple
   finitely_many S e =
       let w = rewriting_complete kb.axioms (facts_in kb S) q tuple e in
       let n = numbers_for S w.1 (image_has (facts_in kb S) w.0 tuple w.1 w.3) in
@@ -83,7 +87,8 @@ module _ (kb : Knowledge) (q : Query) (tuple : List ℕ) where
         p.0,
         p.1,
         (λ i c. n.1 i ((p.2 i).0 c).1),
-        Entails-mono kb.axioms _ _ (λ f (i, c, d). (i, (p.2 i).1 (slice_get_within kb.facts i f d, c), d)) q tuple (rewriting_sound kb.axioms (facts_in kb (Contains n.0)) q w.0 tuple w.1 w.2 m),
+        Entails-mono kb.axioms _ _ (λ f (i, c, d). (i, (p.2 i).1 (slice_get_within kb.facts i f d, c), d)) q tuple
+            (rewriting_sound kb.axioms (facts_in kb (Contains n.0)) q w.0 tuple w.1 w.2 m),
       )
 
   -- ---- and a least part of them
@@ -96,11 +101,14 @@ module _ (kb : Knowledge) (q : Query) (tuple : List ℕ) where
 
   -- a list that isn't least has a shorter part that entails the tuple
   abbrev HasShorter : List ℕ → Type 0
-  HasShorter numbers = (part : List ℕ) × (length part < length numbers) × IsAscending part × ((i : ℕ) → Contains part i → Contains numbers i) × FactsEntail kb (Contains part) q tuple
+  HasShorter numbers = (part : List ℕ) × (length part < length numbers) × IsAscending part × ((i : ℕ) → Contains part i → Contains numbers i)
+      × FactsEntail kb (Contains part) q tuple
 
   least_or_shorter : (numbers : List ℕ) → IsAscending numbers → FactsEntail kb (Contains numbers) q tuple → IsLeast numbers ⊎ HasShorter numbers
-  least_or_shorter numbers a e = elim (all_or_some (λ i. ¬ FactsEntail kb (Without i (Contains numbers)) q tuple) (λ i. FactsEntail kb (Without i (Contains numbers)) q tuple)
-      (λ i. elim (part_entails_or_not kb (Without i (Contains numbers)) (others i numbers) (others_are i numbers) q tuple) [ inl d ↦ inr d | inr d ↦ inl d ]) numbers) [
+  least_or_shorter numbers a e = elim (all_or_some (λ i. ¬ FactsEntail kb (Without i (Contains numbers)) q tuple)
+      (λ i. FactsEntail kb (Without i (Contains numbers)) q tuple)
+      (λ i. elim (part_entails_or_not kb (Without i (Contains numbers)) (others i numbers) (others_are i numbers) q tuple) [ inl d ↦ inr d | inr d ↦ inl d ])
+      numbers) [
         | inl all ↦ inl (record { ascending = a; entails = e; least = all })
         | inr (i, c, d) ↦ inr (
           others i numbers,
@@ -111,7 +119,8 @@ module _ (kb : Knowledge) (q : Query) (tuple : List ℕ) where
         )
       ]
 
-  shrunk : (n : ℕ) (numbers : List ℕ) → length numbers ≤ n → IsAscending numbers → FactsEntail kb (Contains numbers) q tuple → (part : List ℕ) × IsLeast part × ((i : ℕ) → Contains part i → Contains numbers i)
+  shrunk : (n : ℕ) (numbers : List ℕ) → length numbers ≤ n → IsAscending numbers → FactsEntail kb (Contains numbers) q tuple → (part : List ℕ) × IsLeast part
+      × ((i : ℕ) → Contains part i → Contains numbers i)
   shrunk zero numbers l a e = elim (least_or_shorter numbers a e) [ inl w ↦ (numbers, w, λ i c. c) | inr s ↦ absurd (let k = s.1 in omega arith) ]
   shrunk (suc n) numbers l a e = elim (least_or_shorter numbers a e) [
     | inl w ↦ (numbers, w, λ i c. c)
@@ -120,14 +129,22 @@ module _ (kb : Knowledge) (q : Query) (tuple : List ℕ) where
 
   -- a consistent set entails the tuple exactly where it has a cause
   pub entailed_by_causes : (S : ℕ → Type 0) → AreConsistent kb S → FactsEntail kb S q tuple ↔ HasCause kb q tuple S
-  entailed_by_causes S consistent = (there, λ (numbers, a, cause, all). FactsEntail-mono kb q tuple (Contains numbers) S (λ i c. All-contains S numbers i all c) cause.entails)
+  entailed_by_causes S consistent = (
+    there,
+    λ (numbers, a, cause, all). FactsEntail-mono kb q tuple (Contains numbers) S
+        (λ i c. All-contains S numbers i all c) cause.entails,
+  )
     where
       there : FactsEntail kb S q tuple → HasCause kb q tuple S
       there e =
           let f = finitely_many S e in
           let w = shrunk (length f.0) f.0 (omega arith) f.1 f.3 in
-          let inside : (i : ℕ) → Contains w.0 i → S i = λ i c. f.2 i (w.2 i c) in
-          (w.0, w.1.ascending, record { consistent = AreConsistent-mono kb (Contains w.0) S inside consistent; entails = w.1.entails; least = w.1.least }, All-of S w.0 inside)
+          let inside : (i : ℕ) → Contains w.0 i → S i = λ i c. f.2 i (w.2 i c) in (
+            w.0,
+            w.1.ascending,
+            record { consistent = AreConsistent-mono kb (Contains w.0) S inside consistent; entails = w.1.entails; least = w.1.least },
+            All-of S w.0 inside,
+          )
 
   pub causes_tell : (mode : Repairs) → IsAcyclic kb mode → VerdictsByCauses kb mode q tuple
   causes_tell mode acyclic = record {

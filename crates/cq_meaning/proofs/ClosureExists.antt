@@ -95,11 +95,13 @@ module _ (axioms : List Axiom) (N h n : ℕ) (small : (rule : Axiom) → Contain
   abbrev New : List Query → Query → Type 0
   New seen x = (z : Query) × Contains (listed_successor axioms x).0 z × (Contains seen z → ⊥)
 
-  closed_or_new : (seen : List Query) → ((x z : Query) → Contains seen x → IsSuccessor axioms x z → Contains seen z) ⊎ ((x : Query) × Contains seen x × New seen x)
+  closed_or_new : (seen : List Query) → ((x z : Query) → Contains seen x → IsSuccessor axioms x z → Contains seen z)
+      ⊎ ((x : Query) × Contains seen x × New seen x)
   closed_or_new seen = go (all_or_some (λ (x : Query). (z : Query) → Contains (listed_successor axioms x).0 z → Contains seen z) (New seen)
       (λ x. all_or_some (Contains seen) (λ (z : Query). Contains seen z → ⊥) (λ z. member cases_query z seen) (listed_successor axioms x).0) seen)
     where
-      go : ((x : Query) → Contains seen x → (z : Query) → Contains (listed_successor axioms x).0 z → Contains seen z) ⊎ ((x : Query) × Contains seen x × New seen x)
+      go : ((x : Query) → Contains seen x → (z : Query) → Contains (listed_successor axioms x).0 z → Contains seen z)
+          ⊎ ((x : Query) × Contains seen x × New seen x)
           → ((x z : Query) → Contains seen x → IsSuccessor axioms x z → Contains seen z) ⊎ ((x : Query) × Contains seen x × New seen x)
       go (inl all) = inl (λ x z c s. all x c z (((listed_successor axioms x).1 z).1 s))
       go (inr w) = inr w
@@ -143,7 +145,8 @@ module _ (axioms : List Axiom) (N h n : ℕ) (small : (rule : Axiom) → Contain
                 | inr g ↦ elim (w.2 u g) [ inl q ↦ inl (subst (Contains (z ∷ seen)) (sym q) (Contains-head z seen)) | inr y ↦ inr y ]
               ])
 
-all_reached : (axioms : List Axiom) (members : List Query) → ((x z : Query) → Contains members x → IsSuccessor axioms x z → Contains members z) → (k : ℕ) (x p : Query) → Contains members x → Reaches axioms k x p → Contains members p
+all_reached : (axioms : List Axiom) (members : List Query) → ((x z : Query) → Contains members x → IsSuccessor axioms x z → Contains members z)
+    → (k : ℕ) (x p : Query) → Contains members x → Reaches axioms k x p → Contains members p
 all_reached axioms members closed zero x p c e = subst (Contains members) e c
 all_reached axioms members closed (suc k) x p c (y, s, r) = all_reached axioms members closed k y p (closed x y c s) r
 

@@ -1,5 +1,6 @@
 -- A match in the chase leads to a match of a rewritten query in the facts.
-use Rattle.std.proofs.Common.{◌≡◌, ◌≢◌, ℕ, zero, suc, ◌≤◌, ◌<◌, ◌⊎◌, inl, inr, List, [], ◌∷◌, map, Contains, refl, sym, subst, ap, ◌∙◌, arith, Some, slice_get, slice_set, Bool, true, false, cond, eq-eqb, eq-zero-or-pos}
+use Rattle.std.proofs.Common.{◌≡◌, ◌≢◌, ℕ, zero, suc, ◌≤◌, ◌<◌, ◌⊎◌, inl, inr, List, [], ◌∷◌, map, Contains, refl, sym, subst, ap, ◌∙◌, arith, Some}
+use Rattle.std.proofs.Common.{slice_get, slice_set, Bool, true, false, cond, eq-eqb, eq-zero-or-pos}
 use Rattle.std.specs.List.{AllZip}
 use Rattle.std.proofs.lemmas.Bool.{cases_lt}
 use Rattle.cq_terms.specs.declared.axioms.Role.{Role}
@@ -15,7 +16,8 @@ use Rattle.cq_meaning.specs.Entailment.{Becomes, AtomBecomes, HeadBecomes}
 use Rattle.cq_meaning.specs.NormalForm.{map_atom, times_in_term, times_in_atom, times_in_head, times_in_body, normal, without}
 use Rattle.cq_meaning.specs.Rewriting.{role_at, IsAxiomStep, IsSuccessor, Reaches}
 use Rattle.cq_meaning.proofs.Moves.{step_of, successor_of}
-use Rattle.cq_meaning.proofs.Places.{AllZip-get, AllZip-get_back, AllZip-set, AllZip-without, AllZip-map, weight, weight-set, weight-without, heaviest, IsHeaviest, slice_get-without, some_inj}
+use Rattle.cq_meaning.proofs.Places.{AllZip-get, AllZip-get_back, AllZip-set, AllZip-without, AllZip-map, weight, weight-set, weight-without, heaviest}
+use Rattle.cq_meaning.proofs.Places.{IsHeaviest, slice_get-without, some_inj}
 use Rattle.cq_meaning.proofs.Members.{Contains-nil, Contains-cases}
 use Rattle.cq_meaning.proofs.Nulls.{Mentions, born, null_late, Null-apart}
 use Rattle.cq_meaning.proofs.Rewrites.{axiom_step_complete, IsStuck}
@@ -66,7 +68,8 @@ once_or_twice (atom.Link p s t) l h = go h (eq-zero-or-pos (times_in_term l s)) 
     one : (t : Term) → t ≡ Var l → times_in_term l t ≡ 1
     one t e = ap (times_in_term l) e ∙ var_counts l
 
-    go : (s ≡ Var l) ⊎ (t ≡ Var l) → (times_in_term l s ≡ 0) ⊎ (0 < times_in_term l s) → (times_in_term l t ≡ 0) ⊎ (0 < times_in_term l t) → (times_in_atom l (atom.Link p s t) ≡ 1) ⊎ ((q : ℕ) × (atom.Link p s t ≡ atom.Link q (Var l) (Var l)))
+    go : (s ≡ Var l) ⊎ (t ≡ Var l) → (times_in_term l s ≡ 0) ⊎ (0 < times_in_term l s) → (times_in_term l t ≡ 0) ⊎ (0 < times_in_term l t)
+        → (times_in_atom l (atom.Link p s t) ≡ 1) ⊎ ((q : ℕ) × (atom.Link p s t ≡ atom.Link q (Var l) (Var l)))
     go h (inr c) (inr d) = let e = in_term_pos l s c in let e' = in_term_pos l t d in inr (p, cc)
     go (inl e) c (inl z) = let o = one s e in inl (omega arith)
     go (inr e) (inl z) d = let o = one t e in inl (omega arith)
@@ -82,7 +85,8 @@ le-in_body l (b ∷ body) (suc i) a e = omega (arith, le-in_body l body i a e)
 joined_by_place : (q : Query) → IsCounted q → IsJoined q
 joined_by_place q h i a l e v = go (once_or_twice a l v)
   where
-    apart : times_in_atom l a ≡ 1 → (0 < times_in_head l q.head) ⊎ (1 < times_in_body l q.body) → Contains q.head (Var l) ⊎ (((p : ℕ) × (a ≡ atom.Link p (Var l) (Var l)))
+    apart : times_in_atom l a ≡ 1 → (0 < times_in_head l q.head) ⊎ (1 < times_in_body l q.body) → Contains q.head (Var l)
+        ⊎ (((p : ℕ) × (a ≡ atom.Link p (Var l) (Var l)))
         ⊎ ((j : ℕ) × (b : QAtom) × (j ≢ i) × (slice_get q.body j ≡ Some b) × HasVar b l))
     apart o (inl p) = inl (in_head_pos l q.head p)
     apart o (inr t) = let w = other_place l q.body i a e (omega arith) in inr (inr (w.0, w.1, w.2, w.3, has_var w.1 l w.4))
@@ -128,7 +132,8 @@ not_twice v p l r m y (n, n', h, h', e) d = go r.inverse (sym e ∙ d)
     go true f = let g : n ≡ Null m r = cc in let g' : n' ≡ m = cc in Null-apart m r (sym g ∙ h ∙ sym h' ∙ g')
     go false f = let g : n ≡ m = cc in let g' : n' ≡ Null m r = cc in Null-apart m r (sym g' ∙ h' ∙ sym h ∙ g)
 
-pub normal_keeps : (axioms : List Axiom) (F : Fact → Type 0) (q : Query) (tuple : List ℕ) (n : ℕ) → Weighs axioms F q tuple n → Weighs axioms F (normal q) tuple n
+pub normal_keeps : (axioms : List Axiom) (F : Fact → Type 0) (q : Query) (tuple : List ℕ) (n : ℕ) → Weighs axioms F q tuple n
+    → Weighs axioms F (normal q) tuple n
 normal_keeps axioms F q tuple n w =
     let r = normal_fits (λ e. InStage axioms F e.1 e.0) w.v q w.images w.fits in
     record {
@@ -152,7 +157,8 @@ module _ (axioms : List Axiom) (F : Fact → Type 0) where
 
   -- the query lowered at an atom by an axiom step
   stepped : (q : Query) (tuple : List ℕ) (n : ℕ) (w : Weighs axioms F q tuple (suc n)) (i k : ℕ) (y x : Atom) (a a' : QAtom) (rule : Axiom)
-      → slice_get q.body i ≡ Some a → slice_get w.images i ≡ Some (y, suc k) → Contains axioms rule → IsAxiomStep rule a a' → InStage axioms F k x → AtomBecomes w.v a' x
+      → slice_get q.body i ≡ Some a → slice_get w.images i ≡ Some (y, suc k) → Contains axioms rule → IsAxiomStep rule a a' → InStage axioms F k x
+      → AtomBecomes w.v a' x
       → (p : Query) × IsSuccessor axioms q p × Weighs axioms F p tuple n
   stepped q tuple n w i k y x a a' rule ea ey m st s h =
       let p : Query = record { head = q.head; body = slice_set q.body i a' } in (
@@ -174,7 +180,8 @@ module _ (axioms : List Axiom) (F : Fact → Type 0) where
     v = w.v;
     head = w.head;
     images = slice_set w.images i (y, j);
-    fits = subst (λ (body : List QAtom). AllZip (Fits axioms F w.v) body (slice_set w.images i (y, j))) (set_same q.body i a ea) (AllZip-set (Fits axioms F w.v) q.body w.images w.fits i a (y, j) (s, h));
+    fits = subst (λ (body : List QAtom). AllZip (Fits axioms F w.v) body (slice_set w.images i (y, j))) (set_same q.body i a ea)
+        (AllZip-set (Fits axioms F w.v) q.body w.images w.fits i a (y, j) (s, h));
     few = omega (arith, weight-set w.images i (y, k) (y, j) ey, w.few);
   }
 
@@ -195,7 +202,8 @@ module _ (axioms : List Axiom) (F : Fact → Type 0) where
           head = AllZip-map (λ t c. Becomes w.v t (Named c)) f (λ t c. u.3 t (Named c)) q.head tuple w.head;
           images = slice_set (without w.images j) i (y, k);
           fits = AllZip-set (Fits axioms F w.v) (map (map_atom f) (without q.body j)) (without w.images j)
-              (AllZip-map (Fits axioms F w.v) (map_atom f) (λ c e (s, g). (s, map_keeps w.v f u.3 c e.0 g)) (without q.body j) (without w.images j) (AllZip-without (Fits axioms F w.v) q.body w.images w.fits j))
+              (AllZip-map (Fits axioms F w.v) (map_atom f) (λ c e (s, g). (s, map_keeps w.v f u.3 c e.0 g)) (without q.body j) (without w.images j)
+              (AllZip-without (Fits axioms F w.v) q.body w.images w.fits j))
               i u.1 (y, k) (s, u.4);
           few = omega (arith, weight-set (without w.images j) i (y, k) (y, k) at, weight-without w.images j (y, l) ej, w.few);
         }),
@@ -208,17 +216,23 @@ module _ (axioms : List Axiom) (F : Fact → Type 0) where
   -- a new null at a variable: the other atom with it is the same atom, or shows an earlier stage
   unstuck : (q : Query) (tuple : List ℕ) (n : ℕ) → IsJoined q → (w : Weighs axioms F q tuple (suc n)) (i k : ℕ) (y : Atom) (a : QAtom)
       → slice_get q.body i ≡ Some a → IsHeaviest w.images i (y, suc k) → InStage axioms F (suc k) y → AtomBecomes w.v a y → IsStuck w.v a y → Lower q tuple n
-  unstuck q tuple n joined w i k y a ea top s h (r, m, t, l, d, hs, hn, ey) = where_else (joined i a l ea (subst (λ (c : QAtom). HasVar c l) (sym d) (role_has_var r t l)))
+  unstuck q tuple n joined w i k y a ea top s h (r, m, t, l, d, hs, hn, ey) =
+      where_else (joined i a l ea (subst (λ (c : QAtom). HasVar c l) (sym d) (role_has_var r t l)))
     where
-      same : (j kj : ℕ) (b : QAtom) (z : Atom) → j ≢ i → slice_get q.body j ≡ Some b → slice_get w.images j ≡ Some (z, kj) → InStage axioms F kj z → AtomBecomes w.v b z → 0 < kj
+      same : (j kj : ℕ) (b : QAtom) (z : Atom) → j ≢ i → slice_get q.body j ≡ Some b → slice_get w.images j ≡ Some (z, kj) → InStage axioms F kj z
+          → AtomBecomes w.v b z → 0 < kj
           → z ≡ y → (i < j) ⊎ (j ≤ i) → Lower q tuple n
-      same j kj b z ne eb ej sj hj pos e (inl ij) = inr (reduced q tuple n w i j a b y (suc k) kj ij ea eb top.there (ej ∙ ap (λ (x : Atom). Some (x, kj)) e) pos s h (subst (AtomBecomes w.v b) e hj))
-      same j kj b z ne eb ej sj hj pos e (inr ji) = inr (reduced q tuple n w j i b a y kj (suc k) (omega arith) eb ea (ej ∙ ap (λ (x : Atom). Some (x, kj)) e) top.there (omega arith) (subst (InStage axioms F kj) e sj) (subst (AtomBecomes w.v b) e hj) h)
+      same j kj b z ne eb ej sj hj pos e (inl ij) = inr (reduced q tuple n w i j a b y (suc k) kj ij ea eb top.there (ej ∙ ap (λ (x : Atom). Some (x, kj)) e)
+          pos s h (subst (AtomBecomes w.v b) e hj))
+      same j kj b z ne eb ej sj hj pos e (inr ji) = inr (reduced q tuple n w j i b a y kj (suc k) (omega arith) eb ea (ej ∙ ap (λ (x : Atom). Some (x, kj)) e)
+          top.there (omega arith) (subst (InStage axioms F kj) e sj) (subst (AtomBecomes w.v b) e hj) h)
 
-      other : (j kj : ℕ) (b : QAtom) (z : Atom) → j ≢ i → slice_get q.body j ≡ Some b → slice_get w.images j ≡ Some (z, kj) → InStage axioms F kj z → AtomBecomes w.v b z → Mentions z (Null m r)
+      other : (j kj : ℕ) (b : QAtom) (z : Atom) → j ≢ i → slice_get q.body j ≡ Some b → slice_get w.images j ≡ Some (z, kj) → InStage axioms F kj z
+          → AtomBecomes w.v b z → Mentions z (Null m r)
           → (z ≡ role_atom r m (Null m r)) ⊎ ((j' : ℕ) × (suc j' ≡ kj) × InStage axioms F j' (role_atom r m (Null m r))) → Lower q tuple n
       other j kj b z ne eb ej sj hj mz (inl e) = same j kj b z ne eb ej sj hj (null_late axioms F kj z sj m r mz) (e ∙ sym ey) (cases_lt i j)
-      other j kj b z ne eb ej sj hj mz (inr (j', e, s')) = let most = top.most j (z, kj) ej in inl (earlier q tuple n w i (suc k) j' y a ea top.there (omega arith) (subst (InStage axioms F j') (sym ey) s') h)
+      other j kj b z ne eb ej sj hj mz (inr (j', e, s')) = let most = top.most j (z, kj) ej in
+          inl (earlier q tuple n w i (suc k) j' y a ea top.there (omega arith) (subst (InStage axioms F j') (sym ey) s') h)
 
       beside : (j : ℕ) (b : QAtom) → j ≢ i → slice_get q.body j ≡ Some b → HasVar b l → Lower q tuple n
       beside j b ne eb hb =
@@ -235,14 +249,16 @@ module _ (axioms : List Axiom) (F : Fact → Type 0) where
   lower : (q : Query) (tuple : List ℕ) (n : ℕ) → IsJoined q → Weighs axioms F q tuple (suc n) → Lower q tuple n
   lower q tuple n joined w = go (heaviest w.images)
     where
-      step : (i k : ℕ) (y : Atom) (a : QAtom) → slice_get q.body i ≡ Some a → IsHeaviest w.images i (y, suc k) → InStage axioms F (suc k) y → AtomBecomes w.v a y → Lower q tuple n
+      step : (i k : ℕ) (y : Atom) (a : QAtom) → slice_get q.body i ≡ Some a → IsHeaviest w.images i (y, suc k) → InStage axioms F (suc k) y
+          → AtomBecomes w.v a y → Lower q tuple n
       step i k y a ea top (inl s) h = inl (earlier q tuple n w i (suc k) k y a ea top.there (omega arith) s h)
       step i k y a ea top (inr (x, s, (rule, m, c))) h = elim (axiom_step_complete w.v rule a x y c h) [
         | inl (a', st, h') ↦ inr (stepped q tuple n w i k y x a a' rule ea top.there m st s h')
         | inr stuck ↦ unstuck q tuple n joined w i k y a ea top (inr (x, s, (rule, m, c))) h stuck
       ]
 
-      at : (i : ℕ) (y : Atom) (k : ℕ) → 0 < k → IsHeaviest w.images i (y, k) → (a : QAtom) × (slice_get q.body i ≡ Some a) × Fits axioms F w.v a (y, k) → Lower q tuple n
+      at : (i : ℕ) (y : Atom) (k : ℕ) → 0 < k → IsHeaviest w.images i (y, k) → (a : QAtom) × (slice_get q.body i ≡ Some a) × Fits axioms F w.v a (y, k)
+          → Lower q tuple n
       at i y zero pos top f = absurd (omega arith)
       at i y (suc k) pos top (a, ea, (s, h)) = step i k y a ea top s h
 

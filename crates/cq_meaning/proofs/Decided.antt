@@ -1,5 +1,6 @@
 -- Consistency and entailment of a listed part of a table are decided, and so the conflicts of each table can be told.
-use Rattle.std.proofs.Common.{◌≡◌, ℕ, ◌⊎◌, ◌↔◌, inl, inr, List, [], ◌∷◌, Contains, Option, Some, None, slice_get, refl, sym, subst, ap, ◌∙◌, Bool, true, false, true≢false, IsTrue}
+use Rattle.std.proofs.Common.{◌≡◌, ℕ, ◌⊎◌, ◌↔◌, inl, inr, List, [], ◌∷◌, Contains, Option, Some, None, slice_get, refl, sym, subst, ap, ◌∙◌, Bool, true}
+use Rattle.std.proofs.Common.{false, true≢false, IsTrue}
 use Rattle.std.proofs.lemmas.Bool.{cases_eq}
 use Rattle.cq_terms.specs.declared.axioms.Axiom.{Axiom}
 use Rattle.cq_terms.specs.declared.facts.Fact.{Fact}
@@ -21,11 +22,13 @@ use Rattle.cq_meaning.proofs.DisjointnessQueries.{consistent_by_queries}
 
 -- ---- for lists of facts
 
-pub entails_or_not : (axioms : List Axiom) (facts : List Fact) (q : Query) (tuple : List ℕ) → Entails axioms (Contains facts) q tuple ⊎ (¬ Entails axioms (Contains facts) q tuple)
+pub entails_or_not : (axioms : List Axiom) (facts : List Fact) (q : Query) (tuple : List ℕ) → Entails axioms (Contains facts) q tuple
+    ⊎ (¬ Entails axioms (Contains facts) q tuple)
 entails_or_not axioms facts q tuple = let w = closure_exists axioms q in go w.0 w.1
   where
     go : (members : List Query) → IsClosure axioms q members → Entails axioms (Contains facts) q tuple ⊎ (¬ Entails axioms (Contains facts) q tuple)
-    go members closed = elim (all_or_some (λ (m : Query). (image : List Fact) → ¬ Match m (Contains facts) tuple image) (λ (m : Query). (image : List Fact) × Match m (Contains facts) tuple image)
+    go members closed = elim (all_or_some (λ (m : Query). (image : List Fact) → ¬ Match m (Contains facts) tuple image)
+        (λ (m : Query). (image : List Fact) × Match m (Contains facts) tuple image)
         (λ m. elim (match_or_not facts m tuple) [ inl y ↦ inr y | inr n ↦ inl n ]) members) [
           | inl none ↦ inr (λ e. let w = rewriting_complete axioms (Contains facts) q tuple e in none w.0 ((closed w.0).1 w.2) w.1 w.3)
           | inr (m, c, (image, h)) ↦ inl (rewriting_sound axioms (Contains facts) q m tuple image ((closed m).0 c) h)
@@ -92,7 +95,8 @@ facts_at_is kb (i ∷ numbers) f = go (slice_get kb.facts i) refl (facts_at_is k
 
         back : facts_in kb (Contains (i ∷ numbers)) f → Contains (g ∷ facts_at kb.facts numbers) f
         back (l, c, e) = elim (Contains-cases i numbers l c) [
-          | inl p ↦ subst (Contains (g ∷ facts_at kb.facts numbers)) (some_inj (sym d ∙ (ap (slice_get kb.facts) p ∙ e))) (Contains-head g (facts_at kb.facts numbers))
+          | inl p ↦ subst (Contains (g ∷ facts_at kb.facts numbers)) (some_inj (sym d ∙ (ap (slice_get kb.facts) p ∙ e)))
+              (Contains-head g (facts_at kb.facts numbers))
           | inr m ↦ Contains-later g (facts_at kb.facts numbers) f (w.1 (l, m, e))
         ]
 
@@ -150,7 +154,8 @@ first_iff C f g (inr q) = ((λ t. absurd (true≢false (sym t))), (λ c. absurd 
 conflict_or_not : (kb : Knowledge) (i j : ℕ) → Conflict kb i j ⊎ (¬ Conflict kb i j)
 conflict_or_not kb i j = go (cases_eq i j) (one_decided kb i) (one_decided kb j) (two_decided kb i j)
   where
-    go : (i ≡ j) ⊎ (i ≡ j → ⊥) → EntailsForbidden kb.axioms (facts_in kb (Only i)) ⊎ AreConsistent kb (Only i) → EntailsForbidden kb.axioms (facts_in kb (Only j)) ⊎ AreConsistent kb (Only j)
+    go : (i ≡ j) ⊎ (i ≡ j → ⊥) → EntailsForbidden kb.axioms (facts_in kb (Only i)) ⊎ AreConsistent kb (Only i)
+        → EntailsForbidden kb.axioms (facts_in kb (Only j)) ⊎ AreConsistent kb (Only j)
         → EntailsForbidden kb.axioms (facts_in kb (Both i j)) ⊎ AreConsistent kb (Both i j) → Conflict kb i j ⊎ (¬ Conflict kb i j)
     go (inl e) w u v = inr (λ c. c.different e)
     go (inr n) (inl f) u v = inr (λ c. forbidden_inconsistent kb.axioms _ f c.left)

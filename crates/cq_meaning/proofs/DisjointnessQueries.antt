@@ -32,13 +32,23 @@ two s t (suc i) = t
 module _ (axioms : List Axiom) (F : Fact → Type 0) (k : ℕ) where
   violation_matches : (rule : Axiom) → Violates axioms F k rule → (q : Query) × (disjointness_query rule ≡ Some q) × HasMatch (InStage axioms F k) q []
   violation_matches (Disjoint b c) (t, (x, s, p), (y, s', p')) =
-      let v : ℕ → Node = λ i. t in
-      (normal (in_both b c), refl, normal_forth (InStage axioms F k) (in_both b c) [] (v, tt, ((x, s, basic_becomes v b (Var 0) t x refl p), ((y, s', basic_becomes v c (Var 0) t y refl p'), tt))))
+      let v : ℕ → Node = λ i. t in (
+        normal (in_both b c),
+        refl,
+        normal_forth (InStage axioms F k) (in_both b c) []
+            (v, tt, ((x, s, basic_becomes v b (Var 0) t x refl p), ((y, s', basic_becomes v c (Var 0) t y refl p'), tt))),
+      )
   violation_matches (DisjointRole r q) (s, t, m, n) = (
     normal (joined_twice r q),
     refl,
-    normal_forth (InStage axioms F k) (joined_twice r q) []
-        (two s t, tt, ((role_atom r s t, m, role_becomes (two s t) r (Var 0) (Var 1) s t refl refl), ((role_atom q s t, n, role_becomes (two s t) q (Var 0) (Var 1) s t refl refl), tt))),
+    normal_forth (InStage axioms F k) (joined_twice r q) [] (
+      two s t,
+      tt,
+      (
+        (role_atom r s t, m, role_becomes (two s t) r (Var 0) (Var 1) s t refl refl),
+        ((role_atom q s t, n, role_becomes (two s t) q (Var 0) (Var 1) s t refl refl), tt),
+      ),
+    ),
   )
   violation_matches (Sub b c) v = absurd v
   violation_matches (SubRole r q) v = absurd v
@@ -52,15 +62,21 @@ module _ (axioms : List Axiom) (F : Fact → Type 0) (k : ℕ) where
   twice_violate : (r q : Role) → HasMatch (InStage axioms F k) (joined_twice r q) [] → Violates axioms F k (DisjointRole r q)
   twice_violate r q (v, h, ((x, s, p), ((y, s', p'), l))) =
       let w = role_becomes_only v r (Var 0) (Var 1) x p in
-      let w' = role_becomes_only v q (Var 0) (Var 1) y p' in
-      (v 0, v 1, subst (InStage axioms F k) (w.4 ∙ same_role r w.0 w.1 (v 0) (v 1) w.2 w.3) s, subst (InStage axioms F k) (w'.4 ∙ same_role q w'.0 w'.1 (v 0) (v 1) w'.2 w'.3) s')
+      let w' = role_becomes_only v q (Var 0) (Var 1) y p' in (
+        v 0,
+        v 1,
+        subst (InStage axioms F k) (w.4 ∙ same_role r w.0 w.1 (v 0) (v 1) w.2 w.3) s,
+        subst (InStage axioms F k) (w'.4 ∙ same_role q w'.0 w'.1 (v 0) (v 1) w'.2 w'.3) s',
+      )
     where
       same_role : (r : Role) (m n m' n' : Node) → m ≡ m' → n ≡ n' → role_atom r m n ≡ role_atom r m' n'
       same_role r m n m' n' e d = ap (λ t. role_atom r t n) e ∙ ap (λ t. role_atom r m' t) d
 
   pub matches_violate : (rule : Axiom) (q : Query) → disjointness_query rule ≡ Some q → HasMatch (InStage axioms F k) q [] → Violates axioms F k rule
-  matches_violate (Disjoint b c) q e h = both_violate b c (normal_back (InStage axioms F k) (in_both b c) [] (subst (λ (p : Query). HasMatch (InStage axioms F k) p []) (sym (some_inj e)) h))
-  matches_violate (DisjointRole r p) q e h = twice_violate r p (normal_back (InStage axioms F k) (joined_twice r p) [] (subst (λ (p : Query). HasMatch (InStage axioms F k) p []) (sym (some_inj e)) h))
+  matches_violate (Disjoint b c) q e h = both_violate b c (normal_back (InStage axioms F k) (in_both b c) []
+      (subst (λ (p : Query). HasMatch (InStage axioms F k) p []) (sym (some_inj e)) h))
+  matches_violate (DisjointRole r p) q e h = twice_violate r p
+      (normal_back (InStage axioms F k) (joined_twice r p) [] (subst (λ (p : Query). HasMatch (InStage axioms F k) p []) (sym (some_inj e)) h))
   matches_violate (Sub b c) q e h = absurd (cc)
   matches_violate (SubRole r p) q e h = absurd (cc)
 

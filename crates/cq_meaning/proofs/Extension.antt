@@ -1,5 +1,6 @@
 -- Consistency by pairs, and how a consistent set extends to a repair.
-use Rattle.std.proofs.Common.{◌≡◌, ℕ, zero, suc, ◌<◌, ◌⊎◌, inl, inr, length, refl, sym, subst, ap, ◌∙◌, arith, Bool, true, false, ◌||◌, ◌&&◌, ◌≤◌, eqb, eqb-true, eq-eqb, true≢false, slice_get, Some, IsTrue, IsFalse}
+use Rattle.std.proofs.Common.{◌≡◌, ℕ, zero, suc, ◌<◌, ◌⊎◌, inl, inr, length, refl, sym, subst, ap, ◌∙◌, arith, Bool, true, false, ◌||◌, ◌&&◌, ◌≤◌, eqb}
+use Rattle.std.proofs.Common.{eqb-true, eq-eqb, true≢false, slice_get, Some, IsTrue, IsFalse}
 use Rattle.std.proofs.lemmas.Bool.{cases_eq, cases_Bool, or_cases}
 use Rattle.std.proofs.lemmas.Option.{slice_get_within}
 use Rattle.cq_terms.specs.declared.facts.Fact.{Fact}
@@ -25,12 +26,14 @@ AreConsistent-within kb S T h c = Consistent-mono kb.axioms _ _ (λ f (i, s, e).
 pub consistent_by_pairs : (kb : Knowledge) (S : ℕ → Type 0) → IsConflictFree kb S → AreConsistent kb S
 consistent_by_pairs kb S h k rule m v = go (Violates-two kb.axioms (facts_in kb S) k rule v)
   where
-    both : (i j : ℕ) (f g : Fact) → slice_get kb.facts i ≡ Some f → slice_get kb.facts j ≡ Some g → (f' : Fact) → (f' ≡ f) ⊎ (f' ≡ g) → facts_in kb (Both i j) f'
+    both : (i j : ℕ) (f g : Fact) → slice_get kb.facts i ≡ Some f → slice_get kb.facts j ≡ Some g → (f' : Fact) → (f' ≡ f) ⊎ (f' ≡ g)
+        → facts_in kb (Both i j) f'
     both i j f g e d f' (inl p) = (i, inl refl, e ∙ ap Some (sym p))
     both i j f g e d f' (inr p) = (j, inr refl, d ∙ ap Some (sym p))
 
     clash : (i j : ℕ) → i < length kb.facts → j < length kb.facts → S i → S j → Violates kb.axioms (facts_in kb (Both i j)) k rule → (i ≡ j) ⊎ (i ≡ j → ⊥) → ⊥
-    clash i j il jl si sj w (inl e) = h.own i il si (λ c. c k rule m (Violates-mono kb.axioms _ _ (facts_in-mono kb (Both i j) (Only i) (λ l. elim [ inl p ↦ p | inr p ↦ p ∙ sym e ])) k rule w))
+    clash i j il jl si sj w (inl e) = h.own i il si (λ c. c k rule m
+        (Violates-mono kb.axioms _ _ (facts_in-mono kb (Both i j) (Only i) (λ l. elim [ inl p ↦ p | inr p ↦ p ∙ sym e ])) k rule w))
     clash i j il jl si sj w (inr n) = h.pairs i j il jl si sj (record {
       different = n;
       left = Consistent-stable kb.axioms _ (h.own i il si);
@@ -70,7 +73,8 @@ any_below p (suc n) = step (any_below p n) (cases_Bool (p n))
     one f below j l (inl e) = ap p e ∙ f
     one f below j l (inr ne) = below j (omega arith)
 
-    step : ((j : ℕ) × (j < n) × IsTrue (p j)) ⊎ ((j : ℕ) → j < n → IsFalse (p j)) → (p n ≡ true) ⊎ (p n ≡ false) → ((j : ℕ) × (j < suc n) × IsTrue (p j)) ⊎ ((j : ℕ) → j < suc n → IsFalse (p j))
+    step : ((j : ℕ) × (j < n) × IsTrue (p j)) ⊎ ((j : ℕ) → j < n → IsFalse (p j)) → (p n ≡ true) ⊎ (p n ≡ false) → ((j : ℕ) × (j < suc n) × IsTrue (p j))
+        ⊎ ((j : ℕ) → j < suc n → IsFalse (p j))
     step (inl (j, l, t)) c = inl (j, omega arith, t)
     step (inr below) (inl t) = inl (n, omega arith, t)
     step (inr below) (inr f) = inr (λ j l. one f below j l (cases_eq j n))
@@ -133,10 +137,15 @@ module _ (kb : Knowledge) (own : ℕ → Bool) (clash : ℕ → ℕ → Bool) (t
   pub blocked_or_not : (R : ℕ → Bool) (m : ℕ) → m < length kb.facts → IsBlocked kb R m ⊎ (¬ IsBlocked kb R m)
   blocked_or_not R m l = go (cases_Bool (own m)) (any_below (λ j. R j && clash j m) (length kb.facts))
     where
-      go : (own m ≡ true) ⊎ (own m ≡ false) → ((j : ℕ) × (j < length kb.facts) × IsTrue (R j && clash j m)) ⊎ ((j : ℕ) → j < length kb.facts → IsFalse (R j && clash j m)) → IsBlocked kb R m ⊎ (¬ IsBlocked kb R m)
+      go : (own m ≡ true) ⊎ (own m ≡ false) → ((j : ℕ) × (j < length kb.facts) × IsTrue (R j && clash j m))
+          ⊎ ((j : ℕ) → j < length kb.facts → IsFalse (R j && clash j m)) → IsBlocked kb R m ⊎ (¬ IsBlocked kb R m)
       go (inl t) a = inl (inl ((tell.own_iff m l).0 t))
       go (inr f) (inl (j, jl, t)) = let p = and_both (R j) (clash j m) t in inl (inr (j, jl, p.0, (tell.clash_iff j m jl l).0 p.1))
-      go (inr f) (inr none) = inr (elim [ inl s ↦ true≢false (sym ((tell.own_iff m l).1 s) ∙ f) | inr w ↦ true≢false (sym (and_true (R w.0) (clash w.0 m) w.2 ((tell.clash_iff w.0 m w.1 l).1 w.3)) ∙ none w.0 w.1) ])
+      go (inr f) (inr none) = inr (elim [
+        | inl s ↦ true≢false (sym ((tell.own_iff m l).1 s) ∙ f)
+        | inr w ↦
+            true≢false (sym (and_true (R w.0) (clash w.0 m) w.2 ((tell.clash_iff w.0 m w.1 l).1 w.3)) ∙ none w.0 w.1)
+      ])
 
   step : (S R : ℕ → Bool) (m : ℕ) → m < length kb.facts → Walked kb S R m → IsBlocked kb R m ⊎ (¬ IsBlocked kb R m) → (Q : ℕ → Bool) × Walked kb S Q (suc m)
   step S R m l w (inl b) = (R, record { holds = w.holds; free = w.free; full = λ i il. below i il (cases_eq i m) })
@@ -144,7 +153,15 @@ module _ (kb : Knowledge) (own : ℕ → Bool) (clash : ℕ → ℕ → Bool) (t
       below : (i : ℕ) → i < suc m → (i ≡ m) ⊎ (i ≡ m → ⊥) → In R i ⊎ IsBlocked kb R i
       below i il (inl e) = inr (subst (IsBlocked kb R) (sym e) b)
       below i il (inr n) = w.full i (omega arith)
-  step S R m l w (inr free) = (added R m, record { holds = λ i s. added_old R m i (w.holds i s); free = IsConflictFree-added kb R m w.free free; full = λ i il. below i il (cases_eq i m) })
+  step S R m l w (inr free) = (
+    added R m,
+    record {
+      holds = λ i s. added_old R m i (w.holds i s);
+      free = IsConflictFree-added kb R m w.free free;
+      full =
+          λ i il. below i il (cases_eq i m);
+    },
+  )
     where
       kept : (i : ℕ) → In R i ⊎ IsBlocked kb R i → In (added R m) i ⊎ IsBlocked kb (added R m) i
       kept i (inl r) = inl (added_old R m i r)
@@ -167,4 +184,5 @@ module _ (kb : Knowledge) (own : ℕ → Bool) (clash : ℕ → ℕ → Bool) (t
       maximal : (R : ℕ → Bool) (i : ℕ) → IsFalse (R i) → AreConsistent kb (With i (In R)) → In R i ⊎ IsBlocked kb R i → ⊥
       maximal R i f c (inl t) = true≢false (sym t ∙ f)
       maximal R i f c (inr (inl s)) = s (AreConsistent-mono kb (Only i) (With i (In R)) (λ l e. inl e) c)
-      maximal R i f c (inr (inr (j, jl, r, w))) = w.together (AreConsistent-mono kb (Both j i) (With i (In R)) (λ l. elim [ inl e ↦ inr (subst (In R) (sym e) r) | inr e ↦ inl e ]) c)
+      maximal R i f c (inr (inr (j, jl, r, w))) = w.together (AreConsistent-mono kb (Both j i) (With i (In R))
+          (λ l. elim [ inl e ↦ inr (subst (In R) (sym e) r) | inr e ↦ inl e ]) c)

@@ -1,5 +1,6 @@
 -- In a normal form each variable stands in the head, or at two places of the body.
-use Rattle.std.proofs.Common.{◌≡◌, ◌≢◌, ℕ, zero, suc, ◌+◌, ◌<◌, ◌⊎◌, inl, inr, List, [], ◌∷◌, length, map, Contains, refl, sym, subst, ap, ◌∙◌, arith, Some, slice_get, Bool, true, false, cond, ◌==◌, eq-eqb, ne_eqb, true≢false, eq-zero-or-pos}
+use Rattle.std.proofs.Common.{◌≡◌, ◌≢◌, ℕ, zero, suc, ◌+◌, ◌<◌, ◌⊎◌, inl, inr, List, [], ◌∷◌, length, map, Contains, refl, sym, subst, ap, ◌∙◌, arith, Some}
+use Rattle.std.proofs.Common.{slice_get, Bool, true, false, cond, ◌==◌, eq-eqb, ne_eqb, true≢false, eq-zero-or-pos}
 use Rattle.std.specs.Ordering.{is_le}
 use Rattle.std.proofs.lemmas.Bool.{cases_Bool, cases_eq}
 use Rattle.cq_terms.specs.declared.query.Term.{Term}
@@ -7,7 +8,8 @@ use Rattle.cq_terms.specs.declared.query.Term.TheVariants.{Var, Ind, Any}
 use Rattle.cq_terms.specs.declared.query.QAtom.{QAtom}
 use Rattle.cq_terms.specs.declared.query.QAtom.TheVariants as atom
 use Rattle.cq_terms.specs.Query.{Query}
-use Rattle.cq_meaning.specs.NormalForm.{map_atom, distinct_atoms, times_in_term, times_in_atom, times_in_head, times_in_body, is_unbound, unbound_to_any, with_unbound_any, simplified, atom_cmp, insert, sorted, normal}
+use Rattle.cq_meaning.specs.NormalForm.{map_atom, distinct_atoms, times_in_term, times_in_atom, times_in_head, times_in_body, is_unbound, unbound_to_any}
+use Rattle.cq_meaning.specs.NormalForm.{with_unbound_any, simplified, atom_cmp, insert, sorted, normal}
 use Rattle.cq_meaning.proofs.Members.{Contains-head, Contains-later}
 use Rattle.cq_meaning.proofs.Places.{some_inj}
 use Rattle.cq_meaning.proofs.Extension.{and_true}
@@ -50,7 +52,8 @@ count_zero l f h [] = refl
 count_zero l f h (atom.Concept p s ∷ body) = omega (arith, h s, count_zero l f h body)
 count_zero l f h (atom.Link p s t ∷ body) = omega (arith, h s, h t, count_zero l f h body)
 
-pub count_same : (l : ℕ) (f : Term → Term) → ((t : Term) → times_in_term l (f t) ≡ times_in_term l t) → (body : List QAtom) → times_in_body l (map (map_atom f) body) ≡ times_in_body l body
+pub count_same : (l : ℕ) (f : Term → Term) → ((t : Term) → times_in_term l (f t) ≡ times_in_term l t) → (body : List QAtom)
+    → times_in_body l (map (map_atom f) body) ≡ times_in_body l body
 count_same l f h [] = refl
 count_same l f h (atom.Concept p s ∷ body) = omega (arith, h s, count_same l f h body)
 count_same l f h (atom.Link p s t ∷ body) = omega (arith, h s, h t, count_same l f h body)
@@ -58,14 +61,18 @@ count_same l f h (atom.Link p s t ∷ body) = omega (arith, h s, h t, count_same
 pub with_unbound_any_counted : (q : Query) → IsCounted (with_unbound_any q)
 with_unbound_any_counted q l pos = go (cases_Bool (is_unbound q l))
   where
-    two : times_in_body l (with_unbound_any q).body ≡ times_in_body l q.body → is_unbound q l ≡ false → (times_in_head l q.head ≡ 0) ⊎ (times_in_head l q.head ≡ 0 → ⊥) → (times_in_body l q.body ≡ 1) ⊎ (times_in_body l q.body ≡ 1 → ⊥) → (0 < times_in_head l q.head) ⊎ (1 < times_in_body l (with_unbound_any q).body)
+    two : times_in_body l (with_unbound_any q).body ≡ times_in_body l q.body → is_unbound q l ≡ false → (times_in_head l q.head ≡ 0)
+        ⊎ (times_in_head l q.head ≡ 0 → ⊥) → (times_in_body l q.body ≡ 1) ⊎ (times_in_body l q.body ≡ 1 → ⊥) → (0 < times_in_head l q.head)
+        ⊎ (1 < times_in_body l (with_unbound_any q).body)
     two e f (inr n) c = inl (omega arith)
-    two e f (inl z) (inl o) = absurd (true≢false (sym (and_true (times_in_head l q.head == 0) (times_in_body l q.body == 1) (eq-eqb (times_in_head l q.head) 0 z) (eq-eqb (times_in_body l q.body) 1 o)) ∙ f))
+    two e f (inl z) (inl o) = absurd (true≢false (sym (and_true (times_in_head l q.head == 0) (times_in_body l q.body == 1)
+        (eq-eqb (times_in_head l q.head) 0 z) (eq-eqb (times_in_body l q.body) 1 o)) ∙ f))
     two e f (inl z) (inr n) = inr (omega arith)
 
     go : (is_unbound q l ≡ true) ⊎ (is_unbound q l ≡ false) → (0 < times_in_head l q.head) ⊎ (1 < times_in_body l (with_unbound_any q).body)
     go (inl t) = let z = count_zero l (unbound_to_any q) (unbound_term_gone q l t) q.body in absurd (omega arith)
-    go (inr f) = two (count_same l (unbound_to_any q) (unbound_term_kept q l f) q.body) f (cases_eq (times_in_head l q.head) 0) (cases_eq (times_in_body l q.body) 1)
+    go (inr f) = two (count_same l (unbound_to_any q) (unbound_term_kept q l f) q.body) f (cases_eq (times_in_head l q.head) 0)
+        (cases_eq (times_in_body l q.body) 1)
 
 simplified_counted : (n : ℕ) (q : Query) → IsCounted (simplified (suc n) q)
 simplified_counted zero q = with_unbound_any_counted (record { head = q.head; body = distinct_atoms q.body })
@@ -75,7 +82,8 @@ count-insert : (l : ℕ) (a : QAtom) (body : List QAtom) → times_in_body l (in
 count-insert l a [] = refl
 count-insert l a (b ∷ body) = go (is_le (atom_cmp a b)) (count-insert l a body)
   where
-    go : (c : Bool) → times_in_body l (insert a body) ≡ times_in_atom l a + times_in_body l body → times_in_body l (cond c (a ∷ b ∷ body) (b ∷ insert a body)) ≡ times_in_atom l a + (times_in_atom l b + times_in_body l body)
+    go : (c : Bool) → times_in_body l (insert a body) ≡ times_in_atom l a + times_in_body l body
+        → times_in_body l (cond c (a ∷ b ∷ body) (b ∷ insert a body)) ≡ times_in_atom l a + (times_in_atom l b + times_in_body l body)
     go true h = refl
     go false h = omega arith
 
@@ -87,7 +95,8 @@ count-sorted l (a ∷ body) = count-insert l a (sorted body) ∙ ap (λ n. times
 pub normal_counted : (q : Query) → IsCounted (normal q)
 normal_counted q l pos = go (simplified_counted (length q.body) q l (subst (λ n. 0 < n) (count-sorted l (simplified (suc (length q.body)) q).body) pos))
   where
-    go : (0 < times_in_head l (simplified (suc (length q.body)) q).head) ⊎ (1 < times_in_body l (simplified (suc (length q.body)) q).body) → (0 < times_in_head l (normal q).head) ⊎ (1 < times_in_body l (normal q).body)
+    go : (0 < times_in_head l (simplified (suc (length q.body)) q).head) ⊎ (1 < times_in_body l (simplified (suc (length q.body)) q).body)
+        → (0 < times_in_head l (normal q).head) ⊎ (1 < times_in_body l (normal q).body)
     go (inl h) = inl h
     go (inr h) = inr (subst (λ n. 1 < n) (sym (count-sorted l (simplified (suc (length q.body)) q).body)) h)
 
@@ -112,17 +121,21 @@ some_place : (l : ℕ) (body : List QAtom) → 0 < times_in_body l body → (j :
 some_place l [] h = absurd (omega arith)
 some_place l (a ∷ body) h = go (eq-zero-or-pos (times_in_atom l a)) (λ p. some_place l body p)
   where
-    go : (times_in_atom l a ≡ 0) ⊎ (0 < times_in_atom l a) → (0 < times_in_body l body → (j : ℕ) × (b : QAtom) × (slice_get body j ≡ Some b) × (0 < times_in_atom l b)) → (j : ℕ) × (b : QAtom) × (slice_get (a ∷ body) j ≡ Some b) × (0 < times_in_atom l b)
+    go : (times_in_atom l a ≡ 0) ⊎ (0 < times_in_atom l a) → (0 < times_in_body l body → (j : ℕ) × (b : QAtom) × (slice_get body j ≡ Some b)
+        × (0 < times_in_atom l b)) → (j : ℕ) × (b : QAtom) × (slice_get (a ∷ body) j ≡ Some b) × (0 < times_in_atom l b)
     go (inl z) again = let w = again (omega arith) in (suc w.0, w.1, w.2, w.3)
     go (inr p) again = (0, a, refl, p)
 
-pub other_place : (l : ℕ) (body : List QAtom) (i : ℕ) (a : QAtom) → slice_get body i ≡ Some a → times_in_atom l a < times_in_body l body → (j : ℕ) × (b : QAtom) × (j ≢ i) × (slice_get body j ≡ Some b) × (0 < times_in_atom l b)
+pub other_place : (l : ℕ) (body : List QAtom) (i : ℕ) (a : QAtom) → slice_get body i ≡ Some a → times_in_atom l a < times_in_body l body → (j : ℕ)
+    × (b : QAtom) × (j ≢ i) × (slice_get body j ≡ Some b) × (0 < times_in_atom l b)
 other_place l [] i a e h = absurd (omega arith)
 other_place l (c ∷ body) zero a e h =
     let d : times_in_atom l c ≡ times_in_atom l a = ap (times_in_atom l) (some_inj e) in
     let w = some_place l body (omega arith) in (suc w.0, w.1, (λ p. omega arith), w.2, w.3)
 other_place l (c ∷ body) (suc i) a e h = go (eq-zero-or-pos (times_in_atom l c)) (λ p. other_place l body i a e p)
   where
-    go : (times_in_atom l c ≡ 0) ⊎ (0 < times_in_atom l c) → (times_in_atom l a < times_in_body l body → (j : ℕ) × (b : QAtom) × (j ≢ i) × (slice_get body j ≡ Some b) × (0 < times_in_atom l b)) → (j : ℕ) × (b : QAtom) × (j ≢ suc i) × (slice_get (c ∷ body) j ≡ Some b) × (0 < times_in_atom l b)
+    go : (times_in_atom l c ≡ 0) ⊎ (0 < times_in_atom l c) → (times_in_atom l a < times_in_body l body → (j : ℕ) × (b : QAtom) × (j ≢ i)
+        × (slice_get body j ≡ Some b) × (0 < times_in_atom l b)) → (j : ℕ) × (b : QAtom) × (j ≢ suc i) × (slice_get (c ∷ body) j ≡ Some b)
+        × (0 < times_in_atom l b)
     go (inl z) again = let w = again (omega arith) in (suc w.0, w.1, (λ p. w.2 (omega arith)), w.3, w.4)
     go (inr p) again = (0, c, (λ q. omega arith), refl, p)

@@ -78,7 +78,8 @@ listed_below (suc n) =
     (listed_either (λ i. i ≡ n) (λ i. i < n) (listed_one (λ i. i ≡ n) n refl (λ x e. e)) (listed_below n))
 
 -- what is in both lists by a function of two
-pub listed_both : {A B X : Type 0} (P : A → Type 0) (Q : B → Type 0) (f : A → B → X) → Listed P → Listed Q → Listed (λ x. (a : A) × P a × ((b : B) × Q b × (x ≡ f a b)))
+pub listed_both : {A B X : Type 0} (P : A → Type 0) (Q : B → Type 0) (f : A → B → X) → Listed P → Listed Q
+    → Listed (λ x. (a : A) × P a × ((b : B) × Q b × (x ≡ f a b)))
 listed_both {A} {B} {X} P Q f l k =
     listed_like (λ (x : X). (a : A) × Contains l.0 a × ((b : B) × Q b × (x ≡ f a b))) (λ (x : X). (a : A) × P a × ((b : B) × Q b × (x ≡ f a b)))
     (λ x (a, c, w). (a, (l.1 a).0 c, w)) (λ x (a, p, w). (a, (l.1 a).1 p, w))
@@ -88,7 +89,8 @@ pub all_or_some : {A : Type 0} (P Q : A → Type 0) → ((x : A) → P x ⊎ Q x
 all_or_some P Q h [] = inl (λ x c. absurd (Contains-nil x c))
 all_or_some {A} P Q h (y ∷ xs) = go (h y) (all_or_some P Q h xs)
   where
-    go : P y ⊎ Q y → ((x : A) → Contains xs x → P x) ⊎ ((x : A) × Contains xs x × Q x) → ((x : A) → Contains (y ∷ xs) x → P x) ⊎ ((x : A) × Contains (y ∷ xs) x × Q x)
+    go : P y ⊎ Q y → ((x : A) → Contains xs x → P x) ⊎ ((x : A) × Contains xs x × Q x) → ((x : A) → Contains (y ∷ xs) x → P x)
+        ⊎ ((x : A) × Contains (y ∷ xs) x × Q x)
     go (inr q) w = inr (y, Contains-head y xs, q)
     go (inl p) (inr (x, c, q)) = inr (x, Contains-later y xs x c, q)
     go (inl p) (inl all) = inl (λ x c. elim (Contains-cases y xs x c) [ inl e ↦ subst P e p | inr d ↦ all x d ])
@@ -111,12 +113,14 @@ removed {A} (y ∷ xs) z c = go (Contains-cases y xs z c) (λ d. removed xs z d)
     go (inl e) again = (xs, omega arith, λ u c. elim (Contains-cases y xs u c) [ inl d ↦ inl (sym d ∙ e) | inr d ↦ inr d ])
     go (inr d) again = let w = again d in (y ∷ w.0, omega (arith, w.1), λ u c. at u w (Contains-cases y xs u c))
       where
-        at : (u : A) → (w : (ys : List A) × (length ys < length xs) × ((u : A) → Contains xs u → (u ≡ z) ⊎ Contains ys u)) → (y ≡ u) ⊎ Contains xs u → (u ≡ z) ⊎ Contains (y ∷ w.0) u
+        at : (u : A) → (w : (ys : List A) × (length ys < length xs) × ((u : A) → Contains xs u → (u ≡ z) ⊎ Contains ys u)) → (y ≡ u) ⊎ Contains xs u → (u ≡ z)
+            ⊎ Contains (y ∷ w.0) u
         at u w (inl e) = inr (subst (Contains (y ∷ w.0)) e (Contains-head y w.0))
         at u w (inr k) = elim (w.2 u k) [ inl e ↦ inl e | inr m ↦ inr (Contains-later y w.0 u m) ]
 
 -- finitely many lists have at most n items, each with P
-pub cover_lists : {A : Type 0} (P : A → Type 0) → Listed P → (n : ℕ) → (xss : List (List A)) × ((xs : List A) → length xs ≤ n → AllByRecursion P xs → Contains xss xs)
+pub cover_lists : {A : Type 0} (P : A → Type 0) → Listed P → (n : ℕ) → (xss : List (List A))
+    × ((xs : List A) → length xs ≤ n → AllByRecursion P xs → Contains xss xs)
 cover_lists {A} P l zero = ([] ∷ [], go)
   where
     go : (xs : List A) → length xs ≤ 0 → AllByRecursion P xs → Contains ([] ∷ []) xs
@@ -124,11 +128,14 @@ cover_lists {A} P l zero = ([] ∷ [], go)
     go (x ∷ xs) k h = absurd (omega arith)
 cover_lists {A} P l (suc n) = more (cover_lists P l n)
   where
-    more : (xss : List (List A)) × ((xs : List A) → length xs ≤ n → AllByRecursion P xs → Contains xss xs) → (xss : List (List A)) × ((xs : List A) → length xs ≤ suc n → AllByRecursion P xs → Contains xss xs)
+    more : (xss : List (List A)) × ((xs : List A) → length xs ≤ n → AllByRecursion P xs → Contains xss xs) → (xss : List (List A))
+        × ((xs : List A) → length xs ≤ suc n → AllByRecursion P xs → Contains xss xs)
     more (xss, h) =
-        let b : Listed (λ (x : List A). (a : A) × P a × ((ys : List A) × Contains xss ys × (x ≡ a ∷ ys))) = listed_both P (Contains xss) (λ (a : A) (ys : List A). a ∷ ys) l (xss, λ ys. ((λ c. c), (λ c. c))) in
+        let b : Listed (λ (x : List A). (a : A) × P a × ((ys : List A) × Contains xss ys × (x ≡ a ∷ ys))) =
+        listed_both P (Contains xss) (λ (a : A) (ys : List A). a ∷ ys) l (xss, λ ys. ((λ c. c), (λ c. c))) in
         ([] ∷ b.0, go b)
       where
-        go : (b : Listed (λ (x : List A). (a : A) × P a × ((ys : List A) × Contains xss ys × (x ≡ a ∷ ys)))) → (xs : List A) → length xs ≤ suc n → AllByRecursion P xs → Contains ([] ∷ b.0) xs
+        go : (b : Listed (λ (x : List A). (a : A) × P a × ((ys : List A) × Contains xss ys × (x ≡ a ∷ ys)))) → (xs : List A) → length xs ≤ suc n
+            → AllByRecursion P xs → Contains ([] ∷ b.0) xs
         go b [] k w = Contains-head [] b.0
         go b (x ∷ xs) k w = Contains-later [] b.0 (x ∷ xs) ((b.1 (x ∷ xs)).1 (x, w.0, (xs, h xs (omega arith) w.1, refl)))

@@ -1,5 +1,6 @@
 -- Whether a query has a match in a list of facts.
-use Rattle.std.proofs.Common.{◌≡◌, ℕ, ◌⊎◌, inl, inr, List, [], ◌∷◌, Contains, refl, sym, subst, ap, ◌∙◌, Bool, true, false, cond, ◌==◌, eqb-true, eq-eqb, ne_eqb, true≢false, Option, Some, None}
+use Rattle.std.proofs.Common.{◌≡◌, ℕ, ◌⊎◌, inl, inr, List, [], ◌∷◌, Contains, refl, sym, subst, ap, ◌∙◌, Bool, true, false, cond, ◌==◌, eqb-true, eq-eqb}
+use Rattle.std.proofs.Common.{ne_eqb, true≢false, Option, Some, None}
 use Rattle.std.specs.List.{list_any, AllZip}
 use Rattle.std.proofs.lemmas.Bool.{cases_Bool, cases_eq}
 use Rattle.cq_terms.specs.declared.facts.Fact.{Fact}
@@ -88,7 +89,8 @@ bind_sound v env (Var i) c e g x = go (lookup env i) refl g
             (h, ap Named (sym (eqb-true d c t) ∙ sym (h i d l)))
         with_test (inr f) g = absurd (let w = sym g ∙ ap (λ b. cond b (Some env) None) f in cc)
 
-bind_complete : (v : ℕ → ℕ) (env : Env) (s : Term) (c : ℕ) → Extends v env → Becomes (λ i. Named (v i)) s (Named c) → (e : Env) × (bind env s c ≡ Some e) × Extends v e
+bind_complete : (v : ℕ → ℕ) (env : Env) (s : Term) (c : ℕ) → Extends v env → Becomes (λ i. Named (v i)) s (Named c) → (e : Env) × (bind env s c ≡ Some e)
+    × Extends v e
 bind_complete v env Any c x b = (env, refl, x)
 bind_complete v env (Ind d) c x b = let q = name_inj c d b in (env, ap (λ t. cond t (Some env) None) (eq-eqb d c (sym q)), x)
 bind_complete v env (Var i) c x b = go (lookup env i) refl
@@ -104,30 +106,35 @@ bind_complete v env (Var i) c x b = go (lookup env i) refl
         at j d k (inr n) = x j d (sym (ap (λ t. cond t (Some c) (lookup env j)) (ne_eqb i j n)) ∙ k)
     go (Some d) l = let w = x i d l in (env, ap (λ t. cond t (Some env) None) (eq-eqb d c (sym (q ∙ w))), x)
 
-atom_sound : (v : ℕ → ℕ) (env : Env) (a : QAtom) (f : Fact) (e : Env) → bind_atom env a f ≡ Some e → Extends v e → Extends v env × AtomBecomes (λ i. Named (v i)) a (atom_of f)
+atom_sound : (v : ℕ → ℕ) (env : Env) (a : QAtom) (f : Fact) (e : Env) → bind_atom env a f ≡ Some e → Extends v e → Extends v env
+    × AtomBecomes (λ i. Named (v i)) a (atom_of f)
 atom_sound v env (atom.Concept a s) (fact.Concept b c) e g x = go (cases_Bool (a == b)) g
   where
-    go : ((a == b) ≡ true) ⊎ ((a == b) ≡ false) → cond (a == b) (bind env s c) None ≡ Some e → Extends v env × AtomBecomes (λ i. Named (v i)) (atom.Concept a s) (ConceptAtom b (Named c))
+    go : ((a == b) ≡ true) ⊎ ((a == b) ≡ false) → cond (a == b) (bind env s c) None ≡ Some e → Extends v env
+        × AtomBecomes (λ i. Named (v i)) (atom.Concept a s) (ConceptAtom b (Named c))
     go (inl t) g =
         let w = bind_sound v env s c e (sym (ap (λ b. cond b (bind env s c) None) t) ∙ g) x in
         (w.0, (Named c, w.1, ap (λ n. ConceptAtom n (Named c)) (sym (eqb-true a b t))))
     go (inr n) g = absurd (let w = sym g ∙ ap (λ b. cond b (bind env s c) None) n in cc)
 atom_sound v env (atom.Link p s t) (fact.Link q c d) e g x = go (cases_Bool (p == q)) g
   where
-    last : (o : Option Env) → bind env s c ≡ o → then_bind o t d ≡ Some e → (p == q) ≡ true → Extends v env × AtomBecomes (λ i. Named (v i)) (atom.Link p s t) (RoleAtom q (Named c) (Named d))
+    last : (o : Option Env) → bind env s c ≡ o → then_bind o t d ≡ Some e → (p == q) ≡ true → Extends v env
+        × AtomBecomes (λ i. Named (v i)) (atom.Link p s t) (RoleAtom q (Named c) (Named d))
     last None l g t' = absurd (cc)
     last (Some e') l g t' =
         let w = bind_sound v e' t d e g x in
         let u = bind_sound v env s c e' l w.0 in
         (u.0, (Named c, Named d, u.1, w.1, ap (λ n. RoleAtom n (Named c) (Named d)) (sym (eqb-true p q t'))))
 
-    go : ((p == q) ≡ true) ⊎ ((p == q) ≡ false) → cond (p == q) (then_bind (bind env s c) t d) None ≡ Some e → Extends v env × AtomBecomes (λ i. Named (v i)) (atom.Link p s t) (RoleAtom q (Named c) (Named d))
+    go : ((p == q) ≡ true) ⊎ ((p == q) ≡ false) → cond (p == q) (then_bind (bind env s c) t d) None ≡ Some e → Extends v env
+        × AtomBecomes (λ i. Named (v i)) (atom.Link p s t) (RoleAtom q (Named c) (Named d))
     go (inl t') g = last (bind env s c) refl (sym (ap (λ b. cond b (then_bind (bind env s c) t d) None) t') ∙ g) t'
     go (inr n) g = absurd (let w = sym g ∙ ap (λ b. cond b (then_bind (bind env s c) t d) None) n in cc)
 atom_sound v env (atom.Concept a s) (fact.Link q c d) e g x = absurd (cc)
 atom_sound v env (atom.Link p s t) (fact.Concept b c) e g x = absurd (cc)
 
-atom_complete : (v : ℕ → ℕ) (env : Env) (a : QAtom) (f : Fact) → Extends v env → AtomBecomes (λ i. Named (v i)) a (atom_of f) → (e : Env) × (bind_atom env a f ≡ Some e) × Extends v e
+atom_complete : (v : ℕ → ℕ) (env : Env) (a : QAtom) (f : Fact) → Extends v env → AtomBecomes (λ i. Named (v i)) a (atom_of f) → (e : Env)
+    × (bind_atom env a f ≡ Some e) × Extends v e
 atom_complete v env (atom.Concept a s) (fact.Concept b c) x (n, h, q) =
     let d : n ≡ Named c = cc in let p : b ≡ a = cc in
     let w = bind_complete v env s c x (subst (Becomes (λ i. Named (v i)) s) d h) in
@@ -148,7 +155,8 @@ value : Option ℕ → ℕ
 value None = 0
 value (Some c) = c
 
-search_sound : (facts : List Fact) (body : List QAtom) (env : Env) → search facts body (Some env) ≡ true → (v : ℕ → ℕ) × Extends v env × (image : List Fact) × AllZip (Fit facts v) body image
+search_sound : (facts : List Fact) (body : List QAtom) (env : Env) → search facts body (Some env) ≡ true → (v : ℕ → ℕ) × Extends v env × (image : List Fact)
+    × AllZip (Fit facts v) body image
 unfolding value
 search_sound facts [] env t = ((λ i. value (lookup env i)), (λ i c e. ap value e), [], tt)
 search_sound facts (a ∷ body) env t =
@@ -164,7 +172,8 @@ search_sound facts (a ∷ body) env t =
         let s = atom_sound r.0 env a f e g r.1 in
         (r.0, s.0, f ∷ r.2, ((m, s.1), r.3))
 
-search_complete : (facts : List Fact) (v : ℕ → ℕ) (body : List QAtom) (env : Env) (image : List Fact) → Extends v env → AllZip (Fit facts v) body image → search facts body (Some env) ≡ true
+search_complete : (facts : List Fact) (v : ℕ → ℕ) (body : List QAtom) (env : Env) (image : List Fact) → Extends v env → AllZip (Fit facts v) body image
+    → search facts body (Some env) ≡ true
 search_complete facts v [] env image x h = refl
 search_complete facts v (a ∷ body) env [] x h = absurd h
 search_complete facts v (a ∷ body) env (f ∷ image) x h =
@@ -180,18 +189,21 @@ bind_head (Some env) (t ∷ head) (c ∷ tuple) = bind_head (bind env t c) head 
 bind_head (Some env) [] (c ∷ tuple) = None
 bind_head (Some env) (t ∷ head) [] = None
 
-head_sound : (v : ℕ → ℕ) (env : Env) (head : List Term) (tuple : List ℕ) (e : Env) → bind_head (Some env) head tuple ≡ Some e → Extends v e → Extends v env × HeadBecomes (λ i. Named (v i)) head tuple
+head_sound : (v : ℕ → ℕ) (env : Env) (head : List Term) (tuple : List ℕ) (e : Env) → bind_head (Some env) head tuple ≡ Some e → Extends v e → Extends v env
+    × HeadBecomes (λ i. Named (v i)) head tuple
 head_sound v env [] [] e g x = (subst (Extends v) (sym (some_inj g)) x, tt)
 head_sound v env (t ∷ head) (c ∷ tuple) e g x = go (bind env t c) refl g (λ env' g'. head_sound v env' head tuple e g' x)
   where
-    go : (o : Option Env) → bind env t c ≡ o → bind_head o head tuple ≡ Some e → ((env' : Env) → bind_head (Some env') head tuple ≡ Some e → Extends v env' × HeadBecomes (λ i. Named (v i)) head tuple)
+    go : (o : Option Env) → bind env t c ≡ o → bind_head o head tuple ≡ Some e
+        → ((env' : Env) → bind_head (Some env') head tuple ≡ Some e → Extends v env' × HeadBecomes (λ i. Named (v i)) head tuple)
         → Extends v env × HeadBecomes (λ i. Named (v i)) (t ∷ head) (c ∷ tuple)
     go None d g again = absurd (cc)
     go (Some env') d g again = let w = again env' g in let u = bind_sound v env t c env' d w.0 in (u.0, (u.1, w.1))
 head_sound v env [] (c ∷ tuple) e g x = absurd (cc)
 head_sound v env (t ∷ head) [] e g x = absurd (cc)
 
-head_complete : (v : ℕ → ℕ) (env : Env) (head : List Term) (tuple : List ℕ) → Extends v env → HeadBecomes (λ i. Named (v i)) head tuple → (e : Env) × (bind_head (Some env) head tuple ≡ Some e) × Extends v e
+head_complete : (v : ℕ → ℕ) (env : Env) (head : List Term) (tuple : List ℕ) → Extends v env → HeadBecomes (λ i. Named (v i)) head tuple → (e : Env)
+    × (bind_head (Some env) head tuple ≡ Some e) × Extends v e
 head_complete v env [] [] x h = (env, refl, x)
 head_complete v env (t ∷ head) (c ∷ tuple) x h =
     let w = bind_complete v env t c x h.0 in
@@ -219,9 +231,11 @@ found_match facts q tuple image (v, h, b) =
     ap (search facts q.body) w.1 ∙ search_complete facts v q.body w.0 image w.2 b
 
 -- a query has a match in the facts with the tuple, or not
-pub match_or_not : (facts : List Fact) (q : Query) (tuple : List ℕ) → ((image : List Fact) × Match q (Contains facts) tuple image) ⊎ ((image : List Fact) → ¬ Match q (Contains facts) tuple image)
+pub match_or_not : (facts : List Fact) (q : Query) (tuple : List ℕ) → ((image : List Fact) × Match q (Contains facts) tuple image)
+    ⊎ ((image : List Fact) → ¬ Match q (Contains facts) tuple image)
 match_or_not facts q tuple = go (cases_Bool (has_match facts q tuple))
   where
-    go : (has_match facts q tuple ≡ true) ⊎ (has_match facts q tuple ≡ false) → ((image : List Fact) × Match q (Contains facts) tuple image) ⊎ ((image : List Fact) → ¬ Match q (Contains facts) tuple image)
+    go : (has_match facts q tuple ≡ true) ⊎ (has_match facts q tuple ≡ false) → ((image : List Fact) × Match q (Contains facts) tuple image)
+        ⊎ ((image : List Fact) → ¬ Match q (Contains facts) tuple image)
     go (inl t) = inl (match_found facts q tuple t)
     go (inr f) = inr (λ image m. true≢false (sym (found_match facts q tuple image m) ∙ f))

@@ -28,19 +28,25 @@ module _ (kb : Knowledge) (S : ℕ → Bool) where
         g.0,
         f.1.1,
         g.1.1,
-        λ c. c k rule m (Violates-mono kb.axioms _ _ (λ h. elim [ inl e ↦ (f.0, inl refl, subst (λ x. slice_get kb.facts f.0 ≡ Some x) (sym e) f.2) | inr e ↦ (g.0, inr refl, subst (λ x. slice_get kb.facts g.0 ≡ Some x) (sym e) g.2) ]) k rule w.4),
+        λ c. c k rule m (Violates-mono kb.axioms _ _ (λ h. elim [
+          | inl e ↦ (f.0, inl refl, subst (λ x. slice_get kb.facts f.0 ≡ Some x) (sym e) f.2)
+          | inr e ↦
+              (g.0, inr refl, subst (λ x. slice_get kb.facts g.0 ≡ Some x) (sym e) g.2)
+        ]) k rule w.4),
       )
 
   inconsistent_two : ¬ AreConsistent kb (In S) → HasTwo
   inconsistent_two n =
       let w = with_property (In S) (λ i. decided (S i)) (length kb.facts) in
-      elim (part_decided kb Inside w.0 (λ i. ((w.2 i).1, (w.2 i).0))) [ inl f ↦ two_of_forbidden f | inr c ↦ absurd (n (AreConsistent-within kb (In S) Inside (λ i l s. (l, s)) c)) ]
+      elim (part_decided kb Inside w.0 (λ i. ((w.2 i).1, (w.2 i).0)))
+      [ inl f ↦ two_of_forbidden f | inr c ↦ absurd (n (AreConsistent-within kb (In S) Inside (λ i l s. (l, s)) c)) ]
     where
       decided : (b : Bool) → (b ≡ true) ⊎ (b ≡ true → ⊥)
       decided true = inl refl
       decided false = inr (λ e. true≢false (sym e))
 
-  pub minimal_has_two : ¬ AreConsistent kb (In S) → ((i : ℕ) → In S i → AreConsistent kb (Without i (In S))) → (i : ℕ) × (j : ℕ) × In S i × In S j × ((l : ℕ) → In S l → (l ≡ i) ⊎ (l ≡ j))
+  pub minimal_has_two : ¬ AreConsistent kb (In S) → ((i : ℕ) → In S i → AreConsistent kb (Without i (In S))) → (i : ℕ) × (j : ℕ) × In S i × In S j
+      × ((l : ℕ) → In S l → (l ≡ i) ⊎ (l ≡ j))
   minimal_has_two n parts = let w = inconsistent_two n in (w.0, w.1, w.2, w.3, λ l s. go w.0 w.1 w.2 w.3 w.4 l s (cases_eq l w.0) (cases_eq l w.1))
     where
       go : (i j : ℕ) → In S i → In S j → ¬ AreConsistent kb (Both i j) → (l : ℕ) → In S l → (l ≡ i) ⊎ (l ≡ i → ⊥) → (l ≡ j) ⊎ (l ≡ j → ⊥) → (l ≡ i) ⊎ (l ≡ j)

@@ -11,10 +11,12 @@ use Rattle.cq_meaning.proofs.Stages.{InStage-keeps}
 
 module _ (axioms : List Axiom) (names : (rule : Axiom) → Contains axioms rule → IsOfNames rule) where
   -- a consequence is of an inclusion
-  by_inclusion : (x y : Atom) → Derives axioms x y → (a : ℕ) × (b : ℕ) × (t : Node) × Contains axioms (Sub (Concept a) (Concept b)) × (x ≡ ConceptAtom a t) × (y ≡ ConceptAtom b t)
+  by_inclusion : (x y : Atom) → Derives axioms x y → (a : ℕ) × (b : ℕ) × (t : Node) × Contains axioms (Sub (Concept a) (Concept b)) × (x ≡ ConceptAtom a t)
+      × (y ≡ ConceptAtom b t)
   by_inclusion x y (rule, m, c) = go rule (names rule m) m c
     where
-      go : (rule : Axiom) → IsOfNames rule → Contains axioms rule → IsConsequence rule x y → (a : ℕ) × (b : ℕ) × (t : Node) × Contains axioms (Sub (Concept a) (Concept b)) × (x ≡ ConceptAtom a t) × (y ≡ ConceptAtom b t)
+      go : (rule : Axiom) → IsOfNames rule → Contains axioms rule → IsConsequence rule x y → (a : ℕ) × (b : ℕ) × (t : Node)
+          × Contains axioms (Sub (Concept a) (Concept b)) × (x ≡ ConceptAtom a t) × (y ≡ ConceptAtom b t)
       go (Sub (Concept a) (Concept b)) n m (t, e, d) = (a, b, t, m, e, d)
       go (Sub (Concept a) (Has r)) n m c = absurd n
       go (Sub (Has r) b) n m c = absurd n
@@ -23,7 +25,8 @@ module _ (axioms : List Axiom) (names : (rule : Axiom) → Contains axioms rule 
       go (DisjointRole r q) n m w = absurd n
 
   -- what the chase of one fact has
-  pub name_chase : (a c k : ℕ) (x : Atom) → InStage axioms (λ f. f ≡ fact.Concept a c) k x → (n : ℕ) × (b : ℕ) × Includes axioms n a b × (x ≡ ConceptAtom b (Named c))
+  pub name_chase : (a c k : ℕ) (x : Atom) → InStage axioms (λ f. f ≡ fact.Concept a c) k x → (n : ℕ) × (b : ℕ) × Includes axioms n a b
+      × (x ≡ ConceptAtom b (Named c))
   name_chase a c = InStage-keeps axioms (λ f. f ≡ fact.Concept a c) (λ x. (n : ℕ) × (b : ℕ) × Includes axioms n a b × (x ≡ ConceptAtom b (Named c)))
       (λ f e. (0, a, refl, ap atom_of e))
       (λ x y (n, b, i, e) w. let s = by_inclusion x y w in go x y n b i e s)

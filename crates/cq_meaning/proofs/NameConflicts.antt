@@ -1,5 +1,6 @@
 -- Under axioms over concept names the conflicts can be told from the inclusions.
-use Rattle.std.proofs.Common.{◌≡◌, ℕ, ◌≤◌, ◌<◌, ◌⊎◌, ◌↔◌, inl, inr, List, [], ◌∷◌, Contains, refl, sym, subst, ap, ◌∙◌, arith, Bool, true, false, not, ◌&&◌, ◌||◌, ◌==◌, eqb-true, eq-eqb, true≢false, Some, None, slice_get, length, IsTrue, max, get_or}
+use Rattle.std.proofs.Common.{◌≡◌, ℕ, ◌≤◌, ◌<◌, ◌⊎◌, ◌↔◌, inl, inr, List, [], ◌∷◌, Contains, refl, sym, subst, ap, ◌∙◌, arith, Bool, true, false, not, ◌&&◌}
+use Rattle.std.proofs.Common.{◌||◌, ◌==◌, eqb-true, eq-eqb, true≢false, Some, None, slice_get, length, IsTrue, max, get_or}
 use Rattle.std.specs.List.{list_any}
 use Rattle.std.proofs.lemmas.Bool.{cases_Bool, cases_eq, or_cases}
 use Rattle.std.proofs.lemmas.Option.{slice_get_cases}
@@ -43,10 +44,12 @@ passing {A} p (y ∷ xs) t = go (or_cases (p y) (list_any p xs) t) (λ h. passin
     go (inl h) again = (y, Contains-head y xs, h)
     go (inr h) again = let w = again h in (w.0, Contains-later y xs w.0 w.1, w.2)
 
-module _ (kb : Knowledge) (names : (rule : Axiom) → Contains kb.axioms rule → IsOfNames rule) (facts : (i : ℕ) (f : Fact) → slice_get kb.facts i ≡ Some f → IsOfName f)
+module _ (kb : Knowledge) (names : (rule : Axiom) → Contains kb.axioms rule → IsOfNames rule)
+    (facts : (i : ℕ) (f : Fact) → slice_get kb.facts i ≡ Some f → IsOfName f)
     (included : ℕ → ℕ → Bool) (tells : TellsIncluded kb included) where
   -- a disjointness whose sides the names of two facts are included in is violated
-  violated : (S : ℕ → Type 0) (i j a b c : ℕ) → S i → S j → slice_get kb.facts i ≡ Some (fact.Concept a c) → slice_get kb.facts j ≡ Some (fact.Concept b c) → meets included kb.axioms a b ≡ true → ¬ AreConsistent kb S
+  violated : (S : ℕ → Type 0) (i j a b c : ℕ) → S i → S j → slice_get kb.facts i ≡ Some (fact.Concept a c) → slice_get kb.facts j ≡ Some (fact.Concept b c)
+      → meets included kb.axioms a b ≡ true → ¬ AreConsistent kb S
   violated S i j a b c si sj ei ej t cons = go w.0 w.1 w.2
     where
       w : (rule : Axiom) × Contains kb.axioms rule × (splits included rule a b ≡ true)
@@ -58,12 +61,16 @@ module _ (kb : Knowledge) (names : (rule : Axiom) → Contains kb.axioms rule �
       at : (a x m n : ℕ) → F (fact.Concept a c) → Includes kb.axioms n a x → n ≤ m → InStage kb.axioms F m (ConceptAtom x (Named c))
       at a x m n f h l = InStage-later kb.axioms F n m (ConceptAtom x (Named c)) l (name_chased kb.axioms names F a c n x f h)
 
-      both : (x y : ℕ) → Contains kb.axioms (Disjoint (Concept x) (Concept y)) → (a b : ℕ) → F (fact.Concept a c) → F (fact.Concept b c) → included a x ≡ true → included b y ≡ true → ⊥
+      both : (x y : ℕ) → Contains kb.axioms (Disjoint (Concept x) (Concept y)) → (a b : ℕ) → F (fact.Concept a c) → F (fact.Concept b c) → included a x ≡ true
+          → included b y ≡ true → ⊥
       both x y m a b fa fb ta tb =
           let p = (tells fa.0 a c x fa.2).0 ta in
           let q = (tells fb.0 b c y fb.2).0 tb in
-          cons (max p.0 q.0) (Disjoint (Concept x) (Concept y)) m
-          (Named c, (ConceptAtom x (Named c), at a x (max p.0 q.0) p.0 fa p.1 (omega arith), refl), (ConceptAtom y (Named c), at b y (max p.0 q.0) q.0 fb q.1 (omega arith), refl))
+          cons (max p.0 q.0) (Disjoint (Concept x) (Concept y)) m (
+            Named c,
+            (ConceptAtom x (Named c), at a x (max p.0 q.0) p.0 fa p.1 (omega arith), refl),
+            (ConceptAtom y (Named c), at b y (max p.0 q.0) q.0 fb q.1 (omega arith), refl),
+          )
 
       go : (rule : Axiom) → Contains kb.axioms rule → splits included rule a b ≡ true → ⊥
       go (Disjoint (Concept x) (Concept y)) m t = elim (or_cases (included a x && included b y) (included b x && included a y) t) [
@@ -77,21 +84,24 @@ module _ (kb : Knowledge) (names : (rule : Axiom) → Contains kb.axioms rule �
       go (DisjointRole r q) m t = true≢false (sym t)
 
   -- a set in which no two names of one individual meet is consistent
-  harmless : (S : ℕ → Type 0) → ((i j a b c : ℕ) → S i → S j → slice_get kb.facts i ≡ Some (fact.Concept a c) → slice_get kb.facts j ≡ Some (fact.Concept b c) → meets included kb.axioms a b ≡ false) → AreConsistent kb S
+  harmless : (S : ℕ → Type 0) → ((i j a b c : ℕ) → S i → S j → slice_get kb.facts i ≡ Some (fact.Concept a c) → slice_get kb.facts j ≡ Some (fact.Concept b c)
+      → meets included kb.axioms a b ≡ false) → AreConsistent kb S
   harmless S none k rule m v = go rule (names rule m) m v
     where
       F : Fact → Type 0
       F = facts_in kb S
 
       -- an atom of the chase, with the fact that it is from
-      origin : (x t : ℕ) (n : Node) (y : Atom) → InStage kb.axioms F k y → y ≡ ConceptAtom x n → (i : ℕ) × (a : ℕ) × (c : ℕ) × S i × (slice_get kb.facts i ≡ Some (fact.Concept a c)) × (n ≡ Named c) × (included a x ≡ true)
+      origin : (x t : ℕ) (n : Node) (y : Atom) → InStage kb.axioms F k y → y ≡ ConceptAtom x n → (i : ℕ) × (a : ℕ) × (c : ℕ) × S i
+          × (slice_get kb.facts i ≡ Some (fact.Concept a c)) × (n ≡ Named c) × (included a x ≡ true)
       origin x t n y s e = from (descends kb.axioms F k y s)
         where
           named : (f : Fact) → IsOfName f → (a : ℕ) × (c : ℕ) × (f ≡ fact.Concept a c)
           named (fact.Concept a c) u = (a, c, refl)
           named (fact.Link p c d) u = absurd u
 
-          from : (f : Fact) × F f × InStage kb.axioms (λ g. g ≡ f) k y → (i : ℕ) × (a : ℕ) × (c : ℕ) × S i × (slice_get kb.facts i ≡ Some (fact.Concept a c)) × (n ≡ Named c) × (included a x ≡ true)
+          from : (f : Fact) × F f × InStage kb.axioms (λ g. g ≡ f) k y → (i : ℕ) × (a : ℕ) × (c : ℕ) × S i × (slice_get kb.facts i ≡ Some (fact.Concept a c))
+              × (n ≡ Named c) × (included a x ≡ true)
           from (f, (i, si, ei), s') =
               let w = named f (facts i f ei) in
               let ef : slice_get kb.facts i ≡ Some (fact.Concept w.0 w.1) = ei ∙ ap Some w.2 in
@@ -107,7 +117,9 @@ module _ (kb : Knowledge) (names : (rule : Axiom) → Contains kb.axioms rule �
       clash x y m n (i, a, c, si, ei, en, ta) (j, b, d, sj, ej, en', tb) =
           let dc : d ≡ c = cc in
           let ej' : slice_get kb.facts j ≡ Some (fact.Concept b c) = ej ∙ ap (λ z. Some (fact.Concept b z)) dc in
-          true≢false (sym (some_passes (λ rule. splits included rule a b) kb.axioms (Disjoint (Concept x) (Concept y)) m (or_left (included a x && included b y) (included b x && included a y) (and_true (included a x) (included b y) ta tb))) ∙ none i j a b c si sj ei ej')
+          true≢false (sym (some_passes (λ rule. splits included rule a b) kb.axioms (Disjoint (Concept x) (Concept y)) m
+          (or_left (included a x && included b y) (included b x && included a y) (and_true (included a x) (included b y) ta tb)))
+          ∙ none i j a b c si sj ei ej')
 
       go : (rule : Axiom) → IsOfNames rule → Contains kb.axioms rule → Violates kb.axioms F k rule → ⊥
       go (Disjoint (Concept x) (Concept y)) u m (n, (z, s, e), (z', s', e')) = clash x y m n (origin x 0 n z s e) (origin y 0 n z' s' e')
@@ -119,7 +131,8 @@ module _ (kb : Knowledge) (names : (rule : Axiom) → Contains kb.axioms rule �
 
   -- whether names meet doesn't depend on their order
   meets_swap : (a b : ℕ) → meets included kb.axioms a b ≡ true → meets included kb.axioms b a ≡ true
-  meets_swap a b t = let w = passing (λ rule. splits included rule a b) kb.axioms t in some_passes (λ rule. splits included rule b a) kb.axioms w.0 w.1 (swap w.0 w.2)
+  meets_swap a b t = let w = passing (λ rule. splits included rule a b) kb.axioms t in
+      some_passes (λ rule. splits included rule b a) kb.axioms w.0 w.1 (swap w.0 w.2)
     where
       swap : (rule : Axiom) → splits included rule a b ≡ true → splits included rule b a ≡ true
       swap (Disjoint (Concept x) (Concept y)) t = elim (or_cases (included a x && included b y) (included b x && included a y) t) [
@@ -145,7 +158,8 @@ module _ (kb : Knowledge) (names : (rule : Axiom) → Contains kb.axioms rule �
       let q = same_fact i a c b' c' ei (subst (λ l. slice_get kb.facts l ≡ Some (fact.Concept b' c')) sj e') in
       subst (λ z. meets included kb.axioms z b' ≡ false) p.0 (subst (λ z. meets included kb.axioms a z ≡ false) q.0 f))
 
-  pair_ok : (i j a b c d : ℕ) → slice_get kb.facts i ≡ Some (fact.Concept a c) → slice_get kb.facts j ≡ Some (fact.Concept b d) → meets included kb.axioms a a ≡ false → meets included kb.axioms b b ≡ false
+  pair_ok : (i j a b c d : ℕ) → slice_get kb.facts i ≡ Some (fact.Concept a c) → slice_get kb.facts j ≡ Some (fact.Concept b d)
+      → meets included kb.axioms a a ≡ false → meets included kb.axioms b b ≡ false
       → (c ≡ d → meets included kb.axioms a b ≡ false) → AreConsistent kb (Both i j)
   pair_ok i j a b c d ei ej fa fb fab = harmless (Both i j) (λ i' j' a' b' c' si sj e e'. go a' b' c' (here i' a' c' si e) (here j' b' c' sj e'))
     where
@@ -156,7 +170,8 @@ module _ (kb : Knowledge) (names : (rule : Axiom) → Contains kb.axioms rule �
       at : (x y x' y' : ℕ) → x ≡ x' → y ≡ y' → meets included kb.axioms x y ≡ false → meets included kb.axioms x' y' ≡ false
       at x y x' y' p q f = subst (λ z. meets included kb.axioms z y' ≡ false) p (subst (λ z. meets included kb.axioms x z ≡ false) q f)
 
-      go : (a' b' c' : ℕ) → ((a ≡ a') × (c ≡ c')) ⊎ ((b ≡ a') × (d ≡ c')) → ((a ≡ b') × (c ≡ c')) ⊎ ((b ≡ b') × (d ≡ c')) → meets included kb.axioms a' b' ≡ false
+      go : (a' b' c' : ℕ) → ((a ≡ a') × (c ≡ c')) ⊎ ((b ≡ a') × (d ≡ c')) → ((a ≡ b') × (c ≡ c')) ⊎ ((b ≡ b') × (d ≡ c'))
+          → meets included kb.axioms a' b' ≡ false
       go a' b' c' (inl p) (inl q) = at a a a' b' p.0 q.0 fa
       go a' b' c' (inl p) (inr q) = at a b a' b' p.0 q.0 (fab (p.1 ∙ sym q.1))
       go a' b' c' (inr p) (inl q) = at b a a' b' p.0 q.0 (not_meets b a (λ t. true≢false (sym (meets_swap b a t) ∙ fab (q.1 ∙ sym p.1))))
@@ -169,26 +184,31 @@ module _ (kb : Knowledge) (names : (rule : Axiom) → Contains kb.axioms rule �
       named (fact.Concept a c) u e = (a, c, e)
       named (fact.Link p c d) u e = absurd u
 
-      go : ((f : Fact) × (i < length kb.facts) × (slice_get kb.facts i ≡ Some f) × (get_or kb.facts i f ≡ f)) ⊎ ((length kb.facts ≤ i) × (slice_get kb.facts i ≡ None)) → (a : ℕ) × (c : ℕ) × (slice_get kb.facts i ≡ Some (fact.Concept a c))
+      go : ((f : Fact) × (i < length kb.facts) × (slice_get kb.facts i ≡ Some f) × (get_or kb.facts i f ≡ f))
+          ⊎ ((length kb.facts ≤ i) × (slice_get kb.facts i ≡ None)) → (a : ℕ) × (c : ℕ) × (slice_get kb.facts i ≡ Some (fact.Concept a c))
       go (inl (f, k, e, g)) = named f (facts i f e) e
       go (inr (k, e)) = absurd (omega arith)
 
   -- the tests of the names tell the conflicts
-  pub names_tell : TellConflicts kb (λ i. own_test included kb.axioms (slice_get kb.facts i)) (λ i j. clash_test included kb.axioms (slice_get kb.facts i) (slice_get kb.facts j))
+  pub names_tell : TellConflicts kb (λ i. own_test included kb.axioms (slice_get kb.facts i))
+      (λ i j. clash_test included kb.axioms (slice_get kb.facts i) (slice_get kb.facts j))
   names_tell = record { own_iff = λ i il. own i (fact_at i il); clash_iff = λ i j il jl. clash i j (fact_at i il) (fact_at j jl) }
     where
-      own : (i : ℕ) → (a : ℕ) × (c : ℕ) × (slice_get kb.facts i ≡ Some (fact.Concept a c)) → IsTrue (own_test included kb.axioms (slice_get kb.facts i)) ↔ IsSelfInconsistent kb i
+      own : (i : ℕ) → (a : ℕ) × (c : ℕ) × (slice_get kb.facts i ≡ Some (fact.Concept a c)) → IsTrue (own_test included kb.axioms (slice_get kb.facts i))
+          ↔ IsSelfInconsistent kb i
       own i (a, c, e) =
           let same : own_test included kb.axioms (slice_get kb.facts i) ≡ meets included kb.axioms a a = ap (own_test included kb.axioms) e in (
             (λ t. violated (Only i) i i a a c refl refl e e (sym same ∙ t)),
             (λ s. elim (cases_Bool (meets included kb.axioms a a)) [ inl t ↦ same ∙ t | inr f ↦ absurd (s (alone_ok i a c e f)) ]),
           )
 
-      clash : (i j : ℕ) → (a : ℕ) × (c : ℕ) × (slice_get kb.facts i ≡ Some (fact.Concept a c)) → (b : ℕ) × (d : ℕ) × (slice_get kb.facts j ≡ Some (fact.Concept b d))
+      clash : (i j : ℕ) → (a : ℕ) × (c : ℕ) × (slice_get kb.facts i ≡ Some (fact.Concept a c)) → (b : ℕ) × (d : ℕ)
+          × (slice_get kb.facts j ≡ Some (fact.Concept b d))
           → IsTrue (clash_test included kb.axioms (slice_get kb.facts i) (slice_get kb.facts j)) ↔ Conflict kb i j
       clash i j (a, c, e) (b, d, e') = ((λ t. to (sym same ∙ t)), (λ w. same ∙ from w))
         where
-          same : clash_test included kb.axioms (slice_get kb.facts i) (slice_get kb.facts j) ≡ (c == d && (not (meets included kb.axioms a a) && (not (meets included kb.axioms b b) && meets included kb.axioms a b)))
+          same : clash_test included kb.axioms (slice_get kb.facts i) (slice_get kb.facts j)
+              ≡ (c == d && (not (meets included kb.axioms a a) && (not (meets included kb.axioms b b) && meets included kb.axioms a b)))
           same = ap (λ o. clash_test included kb.axioms o (slice_get kb.facts j)) e ∙ ap (clash_test included kb.axioms (Some (fact.Concept a c))) e'
 
           to : (c == d && (not (meets included kb.axioms a a) && (not (meets included kb.axioms b b) && meets included kb.axioms a b))) ≡ true → Conflict kb i j
@@ -207,7 +227,8 @@ module _ (kb : Knowledge) (names : (rule : Axiom) → Contains kb.axioms rule �
                 together = violated (Both i j) i j a b c (inl refl) (inr refl) e ej r.1;
               }
 
-          from : Conflict kb i j → (c == d && (not (meets included kb.axioms a a) && (not (meets included kb.axioms b b) && meets included kb.axioms a b))) ≡ true
+          from : Conflict kb i j → (c == d && (not (meets included kb.axioms a a) && (not (meets included kb.axioms b b) && meets included kb.axioms a b)))
+              ≡ true
           from w =
               let fa = not_meets a a (λ t. violated (Only i) i i a a c refl refl e e t w.left) in
               let fb = not_meets b b (λ t. violated (Only j) j j b b d refl refl e' e' t w.right) in
@@ -215,7 +236,8 @@ module _ (kb : Knowledge) (names : (rule : Axiom) → Contains kb.axioms rule �
                 | inr n ↦ absurd (w.together (pair_ok i j a b c d e e' fa fb (λ cd. absurd (n cd))))
                 | inl cd ↦ elim (cases_Bool (meets included kb.axioms a b)) [
                   | inr f ↦ absurd (w.together (pair_ok i j a b c d e e' fa fb (λ cd. f)))
-                  | inl t ↦ and_true (c == d) (not (meets included kb.axioms a a) && (not (meets included kb.axioms b b) && meets included kb.axioms a b)) (eq-eqb c d cd)
+                  | inl t ↦ and_true (c == d) (not (meets included kb.axioms a a) && (not (meets included kb.axioms b b) && meets included kb.axioms a b))
+                      (eq-eqb c d cd)
                       (and_true (not (meets included kb.axioms a a)) (not (meets included kb.axioms b b) && meets included kb.axioms a b) (ap not fa)
                       (and_true (not (meets included kb.axioms b b)) (meets included kb.axioms a b) (ap not fb) t))
                 ]
@@ -230,10 +252,12 @@ module _ (kb : Knowledge) (names : (rule : Axiom) → Contains kb.axioms rule �
       named (fact.Concept a c) u = (a, c, refl)
       named (fact.Link p c d) u = absurd u
 
-      to : FactsEntail kb S (record { head = Var l ∷ []; body = atom.Concept q (Var l) ∷ [] }) (t ∷ []) → (i : ℕ) × (a : ℕ) × S i × (slice_get kb.facts i ≡ Some (fact.Concept a t)) × IsTrue (included a q)
+      to : FactsEntail kb S (record { head = Var l ∷ []; body = atom.Concept q (Var l) ∷ [] }) (t ∷ []) → (i : ℕ) × (a : ℕ) × S i
+          × (slice_get kb.facts i ≡ Some (fact.Concept a t)) × IsTrue (included a q)
       to (k, (v, (hl, u), ((x, s, (n, hn, e)), u'))) = go (descends kb.axioms (facts_in kb S) k x s)
         where
-          go : (f : Fact) × facts_in kb S f × InStage kb.axioms (λ g. g ≡ f) k x → (i : ℕ) × (a : ℕ) × S i × (slice_get kb.facts i ≡ Some (fact.Concept a t)) × IsTrue (included a q)
+          go : (f : Fact) × facts_in kb S f × InStage kb.axioms (λ g. g ≡ f) k x → (i : ℕ) × (a : ℕ) × S i × (slice_get kb.facts i ≡ Some (fact.Concept a t))
+              × IsTrue (included a q)
           go (f, (i, si, ei), s') =
               let w = named f (facts i f ei) in
               let r = name_chase kb.axioms names w.0 w.1 k x (InStage-mono kb.axioms _ (λ g. g ≡ fact.Concept w.0 w.1) (λ g d. d ∙ w.2) k x s') in
@@ -244,7 +268,21 @@ module _ (kb : Knowledge) (names : (rule : Axiom) → Contains kb.axioms rule �
               let ef : slice_get kb.facts i ≡ Some (fact.Concept w.0 w.1) = ei ∙ ap Some w.2 in
               (i, w.0, si, ef ∙ ap (λ z. Some (fact.Concept w.0 z)) ec, (tells i w.0 w.1 q ef).1 (r.0, subst (Includes kb.axioms r.0 w.0) eq r.2))
 
-      from : (i : ℕ) × (a : ℕ) × S i × (slice_get kb.facts i ≡ Some (fact.Concept a t)) × IsTrue (included a q) → FactsEntail kb S (record { head = Var l ∷ []; body = atom.Concept q (Var l) ∷ [] }) (t ∷ [])
+      from : (i : ℕ) × (a : ℕ) × S i × (slice_get kb.facts i ≡ Some (fact.Concept a t)) × IsTrue (included a q)
+          → FactsEntail kb S (record { head = Var l ∷ []; body = atom.Concept q (Var l) ∷ [] }) (t ∷ [])
       from (i, a, si, ei, h) =
-          let p = (tells i a t q ei).0 h in
-          (p.0, ((λ z. Named t), (refl, tt), ((ConceptAtom q (Named t), name_chased kb.axioms names (facts_in kb S) a t p.0 q (i, si, ei) p.1, (Named t, refl, refl)), tt)))
+          let p = (tells i a t q ei).0 h in (
+            p.0,
+            (
+              (λ z. Named t),
+              (refl, tt),
+              (
+                (
+                  ConceptAtom q (Named t),
+                  name_chased kb.axioms names (facts_in kb S) a t p.0 q (i, si, ei) p.1,
+                  (Named t, refl, refl),
+                ),
+                tt,
+              ),
+            ),
+          )

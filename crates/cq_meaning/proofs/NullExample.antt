@@ -14,6 +14,26 @@ null = Null (Named 0) p
 pub null_inconsistent : IsSelfInconsistent null_register 0
 null_inconsistent c = c 2 (Disjoint (basic.Has inverse_p) (basic.Concept 1)) (2, omega arith, refl) (
   null,
-  (RoleAtom 0 (Named 0) null, inl (inr (ConceptAtom 0 (Named 0), (fact.Concept 0 0, (0, refl, refl), refl), (Sub (basic.Concept 0) (basic.Has p), (0, omega arith, refl), (Named 0, refl, refl)))), (Named 0, refl)),
-  (ConceptAtom 1 null, inr (RoleAtom 0 (Named 0) null, inr (ConceptAtom 0 (Named 0), (fact.Concept 0 0, (0, refl, refl), refl), (Sub (basic.Concept 0) (basic.Has p), (0, omega arith, refl), (Named 0, refl, refl))), (Sub (basic.Has inverse_p) (basic.Concept 1), (1, omega arith, refl), (null, (Named 0, refl), refl))), refl),
+  (
+    RoleAtom 0 (Named 0) null,
+    inl (inr (
+      ConceptAtom 0 (Named 0),
+      (fact.Concept 0 0, (0, refl, refl), refl),
+      (Sub (basic.Concept 0) (basic.Has p), (0, omega arith, refl), (Named 0, refl, refl)),
+    )),
+    (Named 0, refl),
+  ),
+  (
+    ConceptAtom 1 null,
+    inr (
+      RoleAtom 0 (Named 0) null,
+      inr (
+        ConceptAtom 0 (Named 0),
+        (fact.Concept 0 0, (0, refl, refl), refl),
+        (Sub (basic.Concept 0) (basic.Has p), (0, omega arith, refl), (Named 0, refl, refl)),
+      ),
+      (Sub (basic.Has inverse_p) (basic.Concept 1), (1, omega arith, refl), (null, (Named 0, refl), refl)),
+    ),
+    refl,
+  ),
 )

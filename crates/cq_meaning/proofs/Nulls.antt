@@ -45,7 +45,8 @@ unfolding depth
 Null-apart t r e = let h : suc (depth t) ≡ depth t = ap depth e in omega arith
 
 -- the null of a term for a role, in a consequence: it is new there, or the atom before has it
-new_or_old : (rule : Axiom) (x z : Atom) (m : Node) (r : Role) → IsConsequence rule x z → Mentions z (Null m r) → (z ≡ role_atom r m (Null m r)) ⊎ Mentions x (Null m r)
+new_or_old : (rule : Axiom) (x z : Atom) (m : Node) (r : Role) → IsConsequence rule x z → Mentions z (Null m r) → (z ≡ role_atom r m (Null m r))
+    ⊎ Mentions x (Null m r)
 new_or_old (Sub b (basic.Concept a)) x z m r (t, p, e) h =
     let d : t ≡ Null m r = subst (λ (y : Atom). Mentions y (Null m r)) e h in
     inr (subst (Mentions x) d (puts_mentions x t b p))
@@ -53,9 +54,11 @@ new_or_old (Sub b (basic.Has q)) x z m r (t, p, e) h = go (Mentions-role q t (Nu
   where
     go : (t ≡ Null m r) ⊎ (Null t q ≡ Null m r) → (z ≡ role_atom r m (Null m r)) ⊎ Mentions x (Null m r)
     go (inl d) = inr (subst (Mentions x) d (puts_mentions x t b p))
-    go (inr d) = let dt : t ≡ m = cc in let dq : q ≡ r = cc in inl (e ∙ ap (λ (w : Role). role_atom w t (Null t w)) dq ∙ ap (λ (w : Node). role_atom r w (Null w r)) dt)
+    go (inr d) = let dt : t ≡ m = cc in let dq : q ≡ r = cc in inl
+        (e ∙ ap (λ (w : Role). role_atom w t (Null t w)) dq ∙ ap (λ (w : Node). role_atom r w (Null w r)) dt)
 new_or_old (SubRole q q') x z m r (s, t, e, e') h =
-    inr (subst (λ (y : Atom). Mentions y (Null m r)) (sym e) (role_mentions q s t (Null m r) (Mentions-role q' s t (Null m r) (subst (λ (y : Atom). Mentions y (Null m r)) e' h))))
+    inr (subst (λ (y : Atom). Mentions y (Null m r)) (sym e) (role_mentions q s t (Null m r)
+    (Mentions-role q' s t (Null m r) (subst (λ (y : Atom). Mentions y (Null m r)) e' h))))
 new_or_old (Disjoint b c) x z m r w h = absurd w
 new_or_old (DisjointRole q q') x z m r w h = absurd w
 
@@ -75,12 +78,14 @@ pub born : (axioms : List Axiom) (F : Fact → Type 0) (k : ℕ) (z : Atom) → 
 born axioms F zero z (f, p, e) m r h = absurd (fact_has_none f m r (subst (λ (y : Atom). Mentions y (Null m r)) e h))
 born axioms F (suc k) z (inl s) m r h = go (born axioms F k z s m r h)
   where
-    go : (z ≡ role_atom r m (Null m r)) ⊎ ((j : ℕ) × (suc j ≡ k) × InStage axioms F j (role_atom r m (Null m r))) → (z ≡ role_atom r m (Null m r)) ⊎ ((j : ℕ) × (suc j ≡ suc k) × InStage axioms F j (role_atom r m (Null m r)))
+    go : (z ≡ role_atom r m (Null m r)) ⊎ ((j : ℕ) × (suc j ≡ k) × InStage axioms F j (role_atom r m (Null m r))) → (z ≡ role_atom r m (Null m r))
+        ⊎ ((j : ℕ) × (suc j ≡ suc k) × InStage axioms F j (role_atom r m (Null m r)))
     go (inl e) = inl e
     go (inr (j, e, w)) = inr (k, refl, subst (λ (l : ℕ). InStage axioms F l (role_atom r m (Null m r))) e (inl w))
 born axioms F (suc k) z (inr (x, s, (rule, c, w))) m r h = go (new_or_old rule x z m r w h) (λ h. born axioms F k x s m r h)
   where
-    before : (x ≡ role_atom r m (Null m r)) ⊎ ((j : ℕ) × (suc j ≡ k) × InStage axioms F j (role_atom r m (Null m r))) → InStage axioms F k (role_atom r m (Null m r))
+    before : (x ≡ role_atom r m (Null m r)) ⊎ ((j : ℕ) × (suc j ≡ k) × InStage axioms F j (role_atom r m (Null m r)))
+        → InStage axioms F k (role_atom r m (Null m r))
     before (inl e) = subst (InStage axioms F k) e s
     before (inr (j, e, w)) = subst (λ (l : ℕ). InStage axioms F l (role_atom r m (Null m r))) e (inl w)
 

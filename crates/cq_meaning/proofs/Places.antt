@@ -1,5 +1,6 @@
 -- Lists that go in step, and the weight of a match: items set, taken out and mapped.
-use Rattle.std.proofs.Common.{◌≡◌, ℕ, zero, suc, ◌+◌, ◌≤◌, ◌<◌, ◌⊎◌, inl, inr, List, [], ◌∷◌, map, refl, subst, ap, arith, Some, slice_get, slice_set, eq-zero-or-pos}
+use Rattle.std.proofs.Common.{◌≡◌, ℕ, zero, suc, ◌+◌, ◌≤◌, ◌<◌, ◌⊎◌, inl, inr, List, [], ◌∷◌, map, refl, subst, ap, arith, Some, slice_get, slice_set}
+use Rattle.std.proofs.Common.{eq-zero-or-pos}
 use Rattle.std.proofs.lemmas.Bool.{cases_lt}
 use Rattle.std.specs.List.{AllZip}
 use Rattle.cq_meaning.specs.NormalForm.{without}
@@ -7,21 +8,24 @@ use Rattle.cq_meaning.specs.NormalForm.{without}
 pub some_inj : {A : Type 0} {x y : A} → Some x ≡ Some y → x ≡ y
 some_inj e = cc
 
-pub AllZip-get : {A B : Type 0} (R : A → B → Type 0) (xs : List A) (ys : List B) → AllZip R xs ys → (i : ℕ) (x : A) → slice_get xs i ≡ Some x → (y : B) × (slice_get ys i ≡ Some y) × R x y
+pub AllZip-get : {A B : Type 0} (R : A → B → Type 0) (xs : List A) (ys : List B) → AllZip R xs ys → (i : ℕ) (x : A) → slice_get xs i ≡ Some x → (y : B)
+    × (slice_get ys i ≡ Some y) × R x y
 AllZip-get R [] [] h i x e = absurd (cc)
 AllZip-get R [] (y ∷ ys) h i x e = absurd h
 AllZip-get R (x' ∷ xs) [] h i x e = absurd h
 AllZip-get R (x' ∷ xs) (y ∷ ys) h zero x e = let d : x' ≡ x = cc in (y, refl, subst (λ w. R w y) d h.0)
 AllZip-get R (x' ∷ xs) (y ∷ ys) h (suc i) x e = AllZip-get R xs ys h.1 i x e
 
-pub AllZip-get_back : {A B : Type 0} (R : A → B → Type 0) (xs : List A) (ys : List B) → AllZip R xs ys → (i : ℕ) (y : B) → slice_get ys i ≡ Some y → (x : A) × (slice_get xs i ≡ Some x) × R x y
+pub AllZip-get_back : {A B : Type 0} (R : A → B → Type 0) (xs : List A) (ys : List B) → AllZip R xs ys → (i : ℕ) (y : B) → slice_get ys i ≡ Some y → (x : A)
+    × (slice_get xs i ≡ Some x) × R x y
 AllZip-get_back R [] [] h i y e = absurd (cc)
 AllZip-get_back R [] (y' ∷ ys) h i y e = absurd h
 AllZip-get_back R (x ∷ xs) [] h i y e = absurd h
 AllZip-get_back R (x ∷ xs) (y' ∷ ys) h zero y e = let d : y' ≡ y = cc in (x, refl, subst (R x) d h.0)
 AllZip-get_back R (x ∷ xs) (y' ∷ ys) h (suc i) y e = AllZip-get_back R xs ys h.1 i y e
 
-pub AllZip-set : {A B : Type 0} (R : A → B → Type 0) (xs : List A) (ys : List B) → AllZip R xs ys → (i : ℕ) (x : A) (y : B) → R x y → AllZip R (slice_set xs i x) (slice_set ys i y)
+pub AllZip-set : {A B : Type 0} (R : A → B → Type 0) (xs : List A) (ys : List B) → AllZip R xs ys → (i : ℕ) (x : A) (y : B) → R x y
+    → AllZip R (slice_set xs i x) (slice_set ys i y)
 AllZip-set R [] [] h i x y r = h
 AllZip-set R [] (y' ∷ ys) h i x y r = absurd h
 AllZip-set R (x' ∷ xs) [] h i x y r = absurd h
@@ -35,7 +39,8 @@ AllZip-without R (x' ∷ xs) [] h i = absurd h
 AllZip-without R (x' ∷ xs) (y' ∷ ys) h zero = h.1
 AllZip-without R (x' ∷ xs) (y' ∷ ys) h (suc i) = (h.0, AllZip-without R xs ys h.1 i)
 
-pub AllZip-map : {A B : Type 0} (R : A → B → Type 0) (f : A → A) → ((x : A) (y : B) → R x y → R (f x) y) → (xs : List A) (ys : List B) → AllZip R xs ys → AllZip R (map f xs) ys
+pub AllZip-map : {A B : Type 0} (R : A → B → Type 0) (f : A → A) → ((x : A) (y : B) → R x y → R (f x) y) → (xs : List A) (ys : List B) → AllZip R xs ys
+    → AllZip R (map f xs) ys
 AllZip-map R f k [] [] h = h
 AllZip-map R f k [] (y' ∷ ys) h = absurd h
 AllZip-map R f k (x' ∷ xs) [] h = absurd h
@@ -98,7 +103,8 @@ heaviest {A} (e ∷ es) = go (heaviest es)
     alone w (inl z) = inl (omega arith)
     alone w (inr l) = inr (0, e, l, here (λ j d p. omega (arith, le-weight es j d p)))
 
-    go : (weight es ≡ 0) ⊎ ((i : ℕ) × (d : A × ℕ) × (0 < d.1) × IsHeaviest es i d) → (weight (e ∷ es) ≡ 0) ⊎ ((i : ℕ) × (e' : A × ℕ) × (0 < e'.1) × IsHeaviest (e ∷ es) i e')
+    go : (weight es ≡ 0) ⊎ ((i : ℕ) × (d : A × ℕ) × (0 < d.1) × IsHeaviest es i d) → (weight (e ∷ es) ≡ 0)
+        ⊎ ((i : ℕ) × (e' : A × ℕ) × (0 < e'.1) × IsHeaviest (e ∷ es) i e')
     go (inl w) = alone w (eq-zero-or-pos e.1)
     go (inr (i, d, z, h)) = inr (choose i d z h (elim (cases_lt d.1 e.1) [ inl l ↦ inr l | inr l ↦ inl l ]))
 

@@ -13,7 +13,12 @@ pareto_not_all e = cc
 
 -- Prof(ann) is better than Student(ann)
 prof_better : IsBetter ranked_register mode.Pareto 0 1
-prof_better = record { ranked = pareto_not_all; listed = (0, omega arith, refl); conflict = record { different = staff_conflict.different; left = staff_conflict.left; right = staff_conflict.right; together = staff_conflict.together } }
+prof_better = record {
+  ranked = pareto_not_all;
+  listed = (0, omega arith, refl);
+  conflict =
+      record { different = staff_conflict.different; left = staff_conflict.left; right = staff_conflict.right; together = staff_conflict.together };
+}
 
 -- a chosen repair has Prof(ann)
 has_prof : (R : ℕ → Bool) → IsChosen ranked_register mode.Pareto R → IsTrue (R 0)

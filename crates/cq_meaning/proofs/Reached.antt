@@ -1,5 +1,6 @@
 -- The steps of the normal form reach what the counted rounds give.
-use Rattle.std.proofs.Common.{◌≡◌, ◌≢◌, ℕ, zero, suc, ◌+◌, ◌<◌, ◌≤◌, ◌⊎◌, inl, inr, List, [], ◌∷◌, length, map, filter, refl, sym, subst, ap, ◌∙◌, arith, Bool, true, false, not, cond, ◌==◌, ◌&&◌, eq-eqb, ne_eqb, slice_get, Some}
+use Rattle.std.proofs.Common.{◌≡◌, ◌≢◌, ℕ, zero, suc, ◌+◌, ◌<◌, ◌≤◌, ◌⊎◌, inl, inr, List, [], ◌∷◌, length, map, filter, refl, sym, subst, ap, ◌∙◌, arith}
+use Rattle.std.proofs.Common.{Bool, true, false, not, cond, ◌==◌, ◌&&◌, eq-eqb, ne_eqb, slice_get, Some}
 use Rattle.std.specs.Prelude.{nat_lt}
 use Rattle.std.proofs.lemmas.Bool.{cases_Bool, cases_eq, cases_lt, lt-ltb, le-ltb}
 use Rattle.cq_terms.specs.declared.query.Term.{Term}
@@ -7,7 +8,8 @@ use Rattle.cq_terms.specs.declared.query.Term.TheVariants.{Var, Ind, Any}
 use Rattle.cq_terms.specs.declared.query.QAtom.{QAtom}
 use Rattle.cq_terms.specs.declared.query.QAtom.TheVariants as atom
 use Rattle.cq_terms.specs.Query.{Query}
-use Rattle.cq_meaning.specs.NormalForm.{map_atom, same_atom, distinct_atoms, times_in_term, times_in_head, is_unbound, unbound_to_any, with_unbound_any, simplified, normal, substitute, without, SimplifiesIn, IsNormalForm}
+use Rattle.cq_meaning.specs.NormalForm.{map_atom, same_atom, distinct_atoms, times_in_term, times_in_head, is_unbound, unbound_to_any, with_unbound_any}
+use Rattle.cq_meaning.specs.NormalForm.{simplified, normal, substitute, without, SimplifiesIn, IsNormalForm}
 use Rattle.cq_meaning.proofs.Joined.{count_same, times_in_other}
 use Rattle.cq_meaning.proofs.NormalBack.{same_atom_is}
 use Rattle.cq_meaning.proofs.Settled.{rounds_finish, rounds_settle, settled_distinct}
@@ -42,7 +44,11 @@ filtered a (b ∷ xs) = go (same_atom a b) refl (filtered a xs)
   where
     go : (c : Bool) → same_atom a b ≡ c → (n : ℕ) × DropsIn a n xs (filter (λ b. not (same_atom a b)) xs)
         → (n : ℕ) × DropsIn a n (b ∷ xs) (cond (not c) (b ∷ filter (λ b. not (same_atom a b)) xs) (filter (λ b. not (same_atom a b)) xs))
-    go true e (n, h) = (suc n, drops_more a n (b ∷ xs) (b ∷ filter (λ b. not (same_atom a b)) xs) (filter (λ b. not (same_atom a b)) xs) (drops_under a b n xs _ h) (0, ap Some (sym (same_atom_is a b e)), refl))
+    go true e (n, h) = (
+      suc n,
+      drops_more a n (b ∷ xs) (b ∷ filter (λ b. not (same_atom a b)) xs) (filter (λ b. not (same_atom a b)) xs)
+          (drops_under a b n xs _ h) (0, ap Some (sym (same_atom_is a b e)), refl),
+    )
     go false e (n, h) = (n, drops_under a b n xs _ h)
 
 -- the same for a list with some atom before
@@ -56,7 +62,8 @@ RemovesIn (suc n) xs ys = (zs : List QAtom) × Removes xs zs × RemovesIn n zs y
 
 removes_under : (b : QAtom) (n : ℕ) (xs ys : List QAtom) → RemovesIn n xs ys → RemovesIn n (b ∷ xs) (b ∷ ys)
 removes_under b zero xs ys e = ap (λ (l : List QAtom). b ∷ l) e
-removes_under b (suc n) xs ys (zs, (i, j, a, l, g, h, e), r) = (b ∷ zs, (suc i, suc j, a, omega arith, g, h, ap (λ (l : List QAtom). b ∷ l) e), removes_under b n zs ys r)
+removes_under b (suc n) xs ys (zs, (i, j, a, l, g, h, e), r) =
+    (b ∷ zs, (suc i, suc j, a, omega arith, g, h, ap (λ (l : List QAtom). b ∷ l) e), removes_under b n zs ys r)
 
 removes_drops : (a : QAtom) (n : ℕ) (xs ys : List QAtom) → DropsIn a n xs ys → RemovesIn n (a ∷ xs) (a ∷ ys)
 removes_drops a zero xs ys e = ap (λ (l : List QAtom). a ∷ l) e
@@ -71,9 +78,11 @@ distinct_removes [] = (0, refl)
 distinct_removes (a ∷ xs) =
     let w = distinct_removes xs in
     let f = filtered a (distinct_atoms xs) in
-    removes_then w.0 f.0 (a ∷ xs) (a ∷ distinct_atoms xs) (distinct_atoms (a ∷ xs)) (removes_under a w.0 xs (distinct_atoms xs) w.1) (removes_drops a f.0 (distinct_atoms xs) _ f.1)
+    removes_then w.0 f.0 (a ∷ xs) (a ∷ distinct_atoms xs) (distinct_atoms (a ∷ xs)) (removes_under a w.0 xs (distinct_atoms xs) w.1)
+    (removes_drops a f.0 (distinct_atoms xs) _ f.1)
 
-removes_simplify : (head : List Term) (n : ℕ) (xs ys : List QAtom) → RemovesIn n xs ys → SimplifiesIn n (record { head = head; body = xs }) (record { head = head; body = ys })
+removes_simplify : (head : List Term) (n : ℕ) (xs ys : List QAtom) → RemovesIn n xs ys
+    → SimplifiesIn n (record { head = head; body = xs }) (record { head = head; body = ys })
 removes_simplify head zero xs ys e = ap (λ (b : List QAtom). record { head = head; body = b }) e
 removes_simplify head (suc n) xs ys (zs, (i, j, a, l, g, h, e), r) =
     (record { head = head; body = zs }, inl (i, j, a, l, g, h, ap (λ (b : List QAtom). record { head = head; body = b }) e), removes_simplify head n zs ys r)

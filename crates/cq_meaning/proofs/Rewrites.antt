@@ -22,10 +22,12 @@ role_becomes v r s t m n p q = go r.inverse
     go false = (m, n, p, q, refl)
 
 -- and only that
-pub role_becomes_only : (v : ℕ → Node) (r : Role) (s t : Term) (x : Atom) → AtomBecomes v (role_at r s t) x → (m : Node) × (n : Node) × Becomes v s m × Becomes v t n × (x ≡ role_atom r m n)
+pub role_becomes_only : (v : ℕ → Node) (r : Role) (s t : Term) (x : Atom) → AtomBecomes v (role_at r s t) x → (m : Node) × (n : Node) × Becomes v s m
+    × Becomes v t n × (x ≡ role_atom r m n)
 role_becomes_only v r s t x h = go r.inverse h
   where
-    go : (b : Bool) → AtomBecomes v (cond b (atom.Link r.pred t s) (atom.Link r.pred s t)) x → (m : Node) × (n : Node) × Becomes v s m × Becomes v t n × (x ≡ cond b (RoleAtom r.pred n m) (RoleAtom r.pred m n))
+    go : (b : Bool) → AtomBecomes v (cond b (atom.Link r.pred t s) (atom.Link r.pred s t)) x → (m : Node) × (n : Node) × Becomes v s m × Becomes v t n
+        × (x ≡ cond b (RoleAtom r.pred n m) (RoleAtom r.pred m n))
     go true (n, m, q, p, e) = (m, n, p, q, e)
     go false (m, n, p, q, e) = (m, n, p, q, e)
 
@@ -39,7 +41,8 @@ basic_becomes_only v (basic.Concept a) t x (n, p, e) = (n, p, e)
 basic_becomes_only v (basic.Has r) t x h = let w = role_becomes_only v r t Any x h in (w.0, w.2, (w.1, w.4))
 
 -- what the rewritten atom matches has a consequence that the atom matches
-pub axiom_step_sound : (v : ℕ → Node) (rule : Axiom) (a a' : QAtom) (x : Atom) → IsAxiomStep rule a a' → AtomBecomes v a' x → (y : Atom) × IsConsequence rule x y × AtomBecomes v a y
+pub axiom_step_sound : (v : ℕ → Node) (rule : Axiom) (a a' : QAtom) (x : Atom) → IsAxiomStep rule a a' → AtomBecomes v a' x → (y : Atom)
+    × IsConsequence rule x y × AtomBecomes v a y
 axiom_step_sound v (Sub b (basic.Concept c)) a a' x (t, e, e') h =
     let w = basic_becomes_only v b t x (subst (λ (z : QAtom). AtomBecomes v z x) e' h) in
     (ConceptAtom c w.0, (w.0, w.2, refl), subst (λ (z : QAtom). AtomBecomes v z (ConceptAtom c w.0)) (sym e) (w.0, w.1, refl))
@@ -55,10 +58,12 @@ axiom_step_sound v (Disjoint b c) a a' x s h = absurd s
 axiom_step_sound v (DisjointRole r q) a a' x s h = absurd s
 
 -- a query atom that matches a role atom is one of that role
-role_becomes_back : (v : ℕ → Node) (r : Role) (a : QAtom) (m n : Node) → AtomBecomes v a (role_atom r m n) → (s : Term) × (t : Term) × (a ≡ role_at r s t) × Becomes v s m × Becomes v t n
+role_becomes_back : (v : ℕ → Node) (r : Role) (a : QAtom) (m n : Node) → AtomBecomes v a (role_atom r m n) → (s : Term) × (t : Term) × (a ≡ role_at r s t)
+    × Becomes v s m × Becomes v t n
 role_becomes_back v r a m n h = go a r.inverse h
   where
-    go : (a : QAtom) (b : Bool) → AtomBecomes v a (cond b (RoleAtom r.pred n m) (RoleAtom r.pred m n)) → (s : Term) × (t : Term) × (a ≡ cond b (atom.Link r.pred t s) (atom.Link r.pred s t)) × Becomes v s m × Becomes v t n
+    go : (a : QAtom) (b : Bool) → AtomBecomes v a (cond b (RoleAtom r.pred n m) (RoleAtom r.pred m n)) → (s : Term) × (t : Term)
+        × (a ≡ cond b (atom.Link r.pred t s) (atom.Link r.pred s t)) × Becomes v s m × Becomes v t n
     go (atom.Concept a s) true (w, p, e) = absurd (cc)
     go (atom.Concept a s) false (w, p, e) = absurd (cc)
     go (atom.Link p s t) true (m', n', hs, ht, e) =
@@ -73,7 +78,8 @@ abbrev pub IsStuck : (ℕ → Node) → QAtom → Atom → Type 0
 IsStuck v a y = (r : Role) × (m : Node) × (s : Term) × (i : ℕ) × (a ≡ role_at r s (Var i)) × Becomes v s m × (Null m r ≡ v i) × (y ≡ role_atom r m (Null m r))
 
 -- what an atom matches that follows from x, a rewritten atom matches in x, but for a new null at a variable
-pub axiom_step_complete : (v : ℕ → Node) (rule : Axiom) (a : QAtom) (x y : Atom) → IsConsequence rule x y → AtomBecomes v a y → ((a' : QAtom) × IsAxiomStep rule a a' × AtomBecomes v a' x) ⊎ IsStuck v a y
+pub axiom_step_complete : (v : ℕ → Node) (rule : Axiom) (a : QAtom) (x y : Atom) → IsConsequence rule x y → AtomBecomes v a y
+    → ((a' : QAtom) × IsAxiomStep rule a a' × AtomBecomes v a' x) ⊎ IsStuck v a y
 axiom_step_complete v (Sub b (basic.Concept c)) a x y (t, p, e) h = go a (subst (AtomBecomes v a) e h)
   where
     go : (a : QAtom) → AtomBecomes v a (ConceptAtom c t) → ((a' : QAtom) × IsAxiomStep (Sub b (basic.Concept c)) a a' × AtomBecomes v a' x) ⊎ IsStuck v a y
@@ -82,7 +88,8 @@ axiom_step_complete v (Sub b (basic.Concept c)) a x y (t, p, e) h = go a (subst 
     go (atom.Link q s s') (n, n', hs, hs', f) = absurd (cc)
 axiom_step_complete v (Sub b (basic.Has r)) a x y (t, p, e) h = go (role_becomes_back v r a t (Null t r) (subst (AtomBecomes v a) e h))
   where
-    go : (s : Term) × (u : Term) × (a ≡ role_at r s u) × Becomes v s t × Becomes v u (Null t r) → ((a' : QAtom) × IsAxiomStep (Sub b (basic.Has r)) a a' × AtomBecomes v a' x) ⊎ IsStuck v a y
+    go : (s : Term) × (u : Term) × (a ≡ role_at r s u) × Becomes v s t × Becomes v u (Null t r)
+        → ((a' : QAtom) × IsAxiomStep (Sub b (basic.Has r)) a a' × AtomBecomes v a' x) ⊎ IsStuck v a y
     go (s, Any, d, hs, hu) = inl (basic_at b s, (s, d, refl), basic_becomes v b s t x hs p)
     go (s, Var i, d, hs, hu) = inr (r, t, s, i, d, hs, hu, e)
     go (s, Ind c, d, hs, hu) = absurd (cc)

@@ -18,7 +18,8 @@ cases_fact (fact.Concept a c) (fact.Concept b d) = go (cases_eq a b) (cases_eq c
     go (inl e) (inr n) = inr (λ e. let f : c ≡ d = cc in n f)
 cases_fact (fact.Link p c c') (fact.Link q d d') = go (cases_eq p q) (cases_eq c d) (cases_eq c' d')
   where
-    go : (p ≡ q) ⊎ (p ≡ q → ⊥) → (c ≡ d) ⊎ (c ≡ d → ⊥) → (c' ≡ d') ⊎ (c' ≡ d' → ⊥) → (fact.Link p c c' ≡ fact.Link q d d') ⊎ (fact.Link p c c' ≡ fact.Link q d d' → ⊥)
+    go : (p ≡ q) ⊎ (p ≡ q → ⊥) → (c ≡ d) ⊎ (c ≡ d → ⊥) → (c' ≡ d') ⊎ (c' ≡ d' → ⊥) → (fact.Link p c c' ≡ fact.Link q d d')
+        ⊎ (fact.Link p c c' ≡ fact.Link q d d' → ⊥)
     go (inl e) (inl f) (inl g) = inl (cc)
     go (inr n) w v = inr (λ e. let f : p ≡ q = cc in n f)
     go (inl e) (inr n) v = inr (λ e. let f : c ≡ d = cc in n f)
@@ -57,7 +58,8 @@ cases_atom (atom.Concept a s) (atom.Concept b t) = go (cases_eq a b) (cases_term
     go (inl e) (inr n) = inr (λ e. let d : s ≡ t = cc in n d)
 cases_atom (atom.Link p s s') (atom.Link q t t') = go (cases_eq p q) (cases_term s t) (cases_term s' t')
   where
-    go : (p ≡ q) ⊎ (p ≡ q → ⊥) → (s ≡ t) ⊎ (s ≡ t → ⊥) → (s' ≡ t') ⊎ (s' ≡ t' → ⊥) → (atom.Link p s s' ≡ atom.Link q t t') ⊎ (atom.Link p s s' ≡ atom.Link q t t' → ⊥)
+    go : (p ≡ q) ⊎ (p ≡ q → ⊥) → (s ≡ t) ⊎ (s ≡ t → ⊥) → (s' ≡ t') ⊎ (s' ≡ t' → ⊥) → (atom.Link p s s' ≡ atom.Link q t t')
+        ⊎ (atom.Link p s s' ≡ atom.Link q t t' → ⊥)
     go (inl e) (inl d) (inl c) = inl (cc)
     go (inr n) w v = inr (λ e. let d : p ≡ q = cc in n d)
     go (inl e) (inr n) v = inr (λ e. let d : s ≡ t = cc in n d)

@@ -1,12 +1,14 @@
 -- The counted rounds reach a query that neither step changes.
-use Rattle.std.proofs.Common.{◌≡◌, ℕ, zero, suc, ◌<◌, ◌≤◌, ◌⊎◌, inl, inr, List, [], ◌∷◌, length, map, filter, refl, sym, subst, ap, ◌∙◌, arith, Bool, true, false, not, cond, ◌==◌, ◌&&◌, eqb-true, eq-eqb, true≢false, slice_get, Some}
+use Rattle.std.proofs.Common.{◌≡◌, ℕ, zero, suc, ◌<◌, ◌≤◌, ◌⊎◌, inl, inr, List, [], ◌∷◌, length, map, filter, refl, sym, subst, ap, ◌∙◌, arith, Bool, true}
+use Rattle.std.proofs.Common.{false, not, cond, ◌==◌, ◌&&◌, eqb-true, eq-eqb, true≢false, slice_get, Some}
 use Rattle.std.proofs.lemmas.Bool.{cases_Bool}
 use Rattle.cq_terms.specs.declared.query.Term.{Term}
 use Rattle.cq_terms.specs.declared.query.Term.TheVariants.{Var, Ind, Any}
 use Rattle.cq_terms.specs.declared.query.QAtom.{QAtom}
 use Rattle.cq_terms.specs.declared.query.QAtom.TheVariants as atom
 use Rattle.cq_terms.specs.Query.{Query}
-use Rattle.cq_meaning.specs.NormalForm.{map_atom, same_term, same_atom, distinct_atoms, times_in_term, times_in_head, times_in_body, is_unbound, unbound_to_any, with_unbound_any, simplified, Simplifies}
+use Rattle.cq_meaning.specs.NormalForm.{map_atom, same_term, same_atom, distinct_atoms, times_in_term, times_in_head, times_in_body, is_unbound}
+use Rattle.cq_meaning.specs.NormalForm.{unbound_to_any, with_unbound_any, simplified, Simplifies}
 use Rattle.cq_meaning.proofs.Places.{some_inj}
 use Rattle.cq_meaning.proofs.Joined.{IsCounted, with_unbound_any_counted, unbound_term_gone, count_zero}
 use Rattle.cq_meaning.proofs.Extension.{and_both}
@@ -29,7 +31,8 @@ pub filter_cases : {A : Type 0} (p : A → Bool) (xs : List A) → (filter p xs 
 filter_cases p [] = inl refl
 filter_cases {A} p (x ∷ xs) = go (p x) (filter_cases p xs)
   where
-    go : (b : Bool) → (filter p xs ≡ xs) ⊎ (length (filter p xs) < length xs) → (cond b (x ∷ filter p xs) (filter p xs) ≡ x ∷ xs) ⊎ (length (cond b (x ∷ filter p xs) (filter p xs)) < suc (length xs))
+    go : (b : Bool) → (filter p xs ≡ xs) ⊎ (length (filter p xs) < length xs) → (cond b (x ∷ filter p xs) (filter p xs) ≡ x ∷ xs)
+        ⊎ (length (cond b (x ∷ filter p xs) (filter p xs)) < suc (length xs))
     go true (inl e) = inl (ap (λ (l : List A). x ∷ l) e)
     go true (inr l) = inr (omega arith)
     go false h = inr (let m = filter_least p xs in omega arith)
@@ -38,7 +41,8 @@ pub distinct_cases : (xs : List QAtom) → (distinct_atoms xs ≡ xs) ⊎ (lengt
 distinct_cases [] = inl refl
 distinct_cases (a ∷ xs) = go (distinct_cases xs) (filter_cases (λ b. not (same_atom a b)) (distinct_atoms xs))
   where
-    go : (distinct_atoms xs ≡ xs) ⊎ (length (distinct_atoms xs) < length xs) → (filter (λ b. not (same_atom a b)) (distinct_atoms xs) ≡ distinct_atoms xs) ⊎ (length (filter (λ b. not (same_atom a b)) (distinct_atoms xs)) < length (distinct_atoms xs))
+    go : (distinct_atoms xs ≡ xs) ⊎ (length (distinct_atoms xs) < length xs) → (filter (λ b. not (same_atom a b)) (distinct_atoms xs) ≡ distinct_atoms xs)
+        ⊎ (length (filter (λ b. not (same_atom a b)) (distinct_atoms xs)) < length (distinct_atoms xs))
         → (distinct_atoms (a ∷ xs) ≡ a ∷ xs) ⊎ (length (distinct_atoms (a ∷ xs)) < length (a ∷ xs))
     go (inl e) (inl d) = inl (ap (λ (l : List QAtom). a ∷ l) (d ∙ e))
     go (inl e) (inr l) = let m = ap length e in inr (omega arith)
@@ -59,7 +63,8 @@ counted_not_unbound q c l pos = go (cases_Bool (is_unbound q l)) (c l pos)
   where
     go : (is_unbound q l ≡ true) ⊎ (is_unbound q l ≡ false) → (0 < times_in_head l q.head) ⊎ (1 < times_in_body l q.body) → is_unbound q l ≡ false
     go (inr f) w = f
-    go (inl t) w = let u = and_both (times_in_head l q.head == 0) (times_in_body l q.body == 1) t in no (eqb-true (times_in_head l q.head) 0 u.0) (eqb-true (times_in_body l q.body) 1 u.1) w
+    go (inl t) w = let u = and_both (times_in_head l q.head == 0) (times_in_body l q.body == 1) t in
+        no (eqb-true (times_in_head l q.head) 0 u.0) (eqb-true (times_in_body l q.body) 1 u.1) w
       where
         no : times_in_head l q.head ≡ 0 → times_in_body l q.body ≡ 1 → (0 < times_in_head l q.head) ⊎ (1 < times_in_body l q.body) → is_unbound q l ≡ false
         no h b (inl p) = absurd (omega arith)
@@ -70,7 +75,8 @@ unbound_term_same q (Ind c) h = refl
 unbound_term_same q Any h = refl
 unbound_term_same q (Var l) h = ap (λ b. cond b Any (Var l)) (h l (let e = times_in_self l in omega arith))
 
-unbound_body_same : (q : Query) (body : List QAtom) → ((l : ℕ) → 0 < times_in_body l body → is_unbound q l ≡ false) → map (map_atom (unbound_to_any q)) body ≡ body
+unbound_body_same : (q : Query) (body : List QAtom) → ((l : ℕ) → 0 < times_in_body l body → is_unbound q l ≡ false)
+    → map (map_atom (unbound_to_any q)) body ≡ body
 unbound_body_same q [] h = refl
 unbound_body_same q (atom.Concept p t ∷ body) h =
     let e = unbound_term_same q t (λ l k. h l (omega arith)) in
@@ -80,7 +86,8 @@ unbound_body_same q (atom.Link p s t ∷ body) h =
     let e = unbound_term_same q s (λ l k. h l (omega arith)) in
     let e' = unbound_term_same q t (λ l k. h l (omega arith)) in
     let d = unbound_body_same q body (λ l k. h l (omega arith)) in
-    ap (λ (u : Term). atom.Link p u (unbound_to_any q t) ∷ map (map_atom (unbound_to_any q)) body) e ∙ (ap (λ (u : Term). atom.Link p s u ∷ map (map_atom (unbound_to_any q)) body) e' ∙ ap (λ (b : List QAtom). atom.Link p s t ∷ b) d)
+    ap (λ (u : Term). atom.Link p u (unbound_to_any q t) ∷ map (map_atom (unbound_to_any q)) body) e
+    ∙ (ap (λ (u : Term). atom.Link p s u ∷ map (map_atom (unbound_to_any q)) body) e' ∙ ap (λ (b : List QAtom). atom.Link p s t ∷ b) d)
 
 pub with_unbound_any_same : (q : Query) → IsCounted q → with_unbound_any q ≡ q
 with_unbound_any_same q c = ap (λ (b : List QAtom). record { head = q.head; body = b }) (unbound_body_same q q.body (counted_not_unbound q c))
@@ -96,7 +103,8 @@ same_or_less q c = go (distinct_cases q.body)
   where
     go : (distinct_atoms q.body ≡ q.body) ⊎ (length (distinct_atoms q.body) < length q.body) → (round q ≡ q) ⊎ (length (round q).body < length q.body)
     go (inl e) = inl (ap (λ (b : List QAtom). with_unbound_any (record { head = q.head; body = b })) e ∙ with_unbound_any_same q c)
-    go (inr l) = let m = length_map (map_atom (unbound_to_any (record { head = q.head; body = distinct_atoms q.body }))) (distinct_atoms q.body) in inr (omega arith)
+    go (inr l) = let m = length_map (map_atom (unbound_to_any (record { head = q.head; body = distinct_atoms q.body }))) (distinct_atoms q.body) in
+        inr (omega arith)
 
 settle : (n : ℕ) (q : Query) → IsCounted q → length q.body ≤ n → round (simplified n q) ≡ simplified n q
 settle zero q c l = go (same_or_less q c)
@@ -106,16 +114,19 @@ settle zero q c l = go (same_or_less q c)
     go (inr k) = absurd (omega arith)
 settle (suc n) q c l = go (same_or_less q c) (λ k. settle n (round q) (with_unbound_any_counted (record { head = q.head; body = distinct_atoms q.body })) k)
   where
-    go : (round q ≡ q) ⊎ (length (round q).body < length q.body) → (length (round q).body ≤ n → round (simplified n (round q)) ≡ simplified n (round q)) → round (simplified (suc n) q) ≡ simplified (suc n) q
+    go : (round q ≡ q) ⊎ (length (round q).body < length q.body) → (length (round q).body ≤ n → round (simplified n (round q)) ≡ simplified n (round q))
+        → round (simplified (suc n) q) ≡ simplified (suc n) q
     go (inl e) again = let s = stays (suc n) q e in ap round s ∙ (e ∙ sym s)
     go (inr k) again = again (omega arith)
 
 -- the counted rounds of the normal form end at a query that a further round leaves as it is
 pub rounds_settle : (q : Query) → round (simplified (suc (length q.body)) q) ≡ simplified (suc (length q.body)) q
-rounds_settle q = settle (length q.body) (round q) (with_unbound_any_counted (record { head = q.head; body = distinct_atoms q.body })) (go (distinct_cases q.body))
+rounds_settle q = settle (length q.body) (round q) (with_unbound_any_counted (record { head = q.head; body = distinct_atoms q.body }))
+    (go (distinct_cases q.body))
   where
     go : (distinct_atoms q.body ≡ q.body) ⊎ (length (distinct_atoms q.body) < length q.body) → length (round q).body ≤ length q.body
-    go (inl e) = let m = length_map (map_atom (unbound_to_any (record { head = q.head; body = distinct_atoms q.body }))) (distinct_atoms q.body) in let d = ap length e in omega arith
+    go (inl e) = let m = length_map (map_atom (unbound_to_any (record { head = q.head; body = distinct_atoms q.body }))) (distinct_atoms q.body) in let d =
+        ap length e in omega arith
     go (inr l) = let m = length_map (map_atom (unbound_to_any (record { head = q.head; body = distinct_atoms q.body }))) (distinct_atoms q.body) in omega arith
 
 -- ---- such a query is changed by no step
@@ -124,7 +135,8 @@ filter_all : {A : Type 0} (p : A → Bool) (xs : List A) → filter p xs ≡ xs 
 filter_all p [] e i x g = absurd (cc)
 filter_all {A} p (y ∷ ys) e i x g = go (p y) refl e i g (λ d j h. filter_all p ys d j x h)
   where
-    go : (b : Bool) → p y ≡ b → cond b (y ∷ filter p ys) (filter p ys) ≡ y ∷ ys → (i : ℕ) → slice_get (y ∷ ys) i ≡ Some x → (filter p ys ≡ ys → (j : ℕ) → slice_get ys j ≡ Some x → p x ≡ true) → p x ≡ true
+    go : (b : Bool) → p y ≡ b → cond b (y ∷ filter p ys) (filter p ys) ≡ y ∷ ys → (i : ℕ) → slice_get (y ∷ ys) i ≡ Some x
+        → (filter p ys ≡ ys → (j : ℕ) → slice_get ys j ≡ Some x → p x ≡ true) → p x ≡ true
     go true t e zero g again = subst (λ z. p z ≡ true) (some_inj g) t
     go true t e (suc i) g again = let d : filter p ys ≡ ys = cc in again d i g
     go false t e i g again = let m = filter_least p ys in let d = ap length e in absurd (omega arith)
@@ -161,12 +173,14 @@ not_both false e d = true≢false (sym e)
 -- where nothing is taken out, no atom stands at two places
 distinct_places : (xs : List QAtom) → distinct_atoms xs ≡ xs → (i j : ℕ) (a : QAtom) → i < j → slice_get xs i ≡ Some a → slice_get xs j ≡ Some a → ⊥
 distinct_places [] e i j a l g h = absurd (cc)
-distinct_places (b ∷ xs) e i j a l g h = go (distinct_cases xs) (filter_cases (λ c. not (same_atom b c)) (distinct_atoms xs)) i j l g h (λ d i j l g h. distinct_places xs d i j a l g h)
+distinct_places (b ∷ xs) e i j a l g h = go (distinct_cases xs) (filter_cases (λ c. not (same_atom b c)) (distinct_atoms xs)) i j l g h
+    (λ d i j l g h. distinct_places xs d i j a l g h)
   where
     tail : filter (λ c. not (same_atom b c)) (distinct_atoms xs) ≡ xs
     tail = cc
 
-    go : (distinct_atoms xs ≡ xs) ⊎ (length (distinct_atoms xs) < length xs) → (filter (λ c. not (same_atom b c)) (distinct_atoms xs) ≡ distinct_atoms xs) ⊎ (length (filter (λ c. not (same_atom b c)) (distinct_atoms xs)) < length (distinct_atoms xs))
+    go : (distinct_atoms xs ≡ xs) ⊎ (length (distinct_atoms xs) < length xs) → (filter (λ c. not (same_atom b c)) (distinct_atoms xs) ≡ distinct_atoms xs)
+        ⊎ (length (filter (λ c. not (same_atom b c)) (distinct_atoms xs)) < length (distinct_atoms xs))
         → (i j : ℕ) → i < j → slice_get (b ∷ xs) i ≡ Some a → slice_get (b ∷ xs) j ≡ Some a
         → (distinct_atoms xs ≡ xs → (i j : ℕ) → i < j → slice_get xs i ≡ Some a → slice_get xs j ≡ Some a → ⊥) → ⊥
     go (inr l) w i j k g h again = let m = filter_least (λ c. not (same_atom b c)) (distinct_atoms xs) in let d = ap length tail in absurd (omega arith)
@@ -189,7 +203,8 @@ pub settled : (q : Query) → round q ≡ q → (s : Query) → ¬ Simplifies q 
 settled q e s w = go (distinct_cases q.body) w
   where
     same : length (distinct_atoms q.body) ≡ length q.body
-    same = sym (length_map (map_atom (unbound_to_any (record { head = q.head; body = distinct_atoms q.body }))) (distinct_atoms q.body)) ∙ ap (λ (p : Query). length p.body) e
+    same = sym (length_map (map_atom (unbound_to_any (record { head = q.head; body = distinct_atoms q.body }))) (distinct_atoms q.body))
+        ∙ ap (λ (p : Query). length p.body) e
 
     still : distinct_atoms q.body ≡ q.body → with_unbound_any q ≡ q
     still d = ap (λ (b : List QAtom). with_unbound_any (record { head = q.head; body = b })) (sym d) ∙ e

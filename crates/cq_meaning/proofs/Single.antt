@@ -18,24 +18,29 @@ use Rattle.cq_meaning.proofs.Extension.{facts_in-mono, AreConsistent-mono, exten
 use Rattle.cq_meaning.proofs.Chosen.{chosen_in_all}
 
 -- more facts entail more
-pub Entails-mono : (axioms : List Axiom) (F G : Fact → Type 0) → ((f : Fact) → F f → G f) → (q : Query) (tuple : List ℕ) → Entails axioms F q tuple → Entails axioms G q tuple
+pub Entails-mono : (axioms : List Axiom) (F G : Fact → Type 0) → ((f : Fact) → F f → G f) → (q : Query) (tuple : List ℕ) → Entails axioms F q tuple
+    → Entails axioms G q tuple
 Entails-mono axioms F G h q tuple (k, (v, head, body)) = (k, (v, head, all q.body body))
   where
-    all : (xs : List QAtom) → AllByRecursion (λ a. (x : Atom) × InStage axioms F k x × AtomBecomes v a x) xs → AllByRecursion (λ a. (x : Atom) × InStage axioms G k x × AtomBecomes v a x) xs
+    all : (xs : List QAtom) → AllByRecursion (λ a. (x : Atom) × InStage axioms F k x × AtomBecomes v a x) xs
+        → AllByRecursion (λ a. (x : Atom) × InStage axioms G k x × AtomBecomes v a x) xs
     all [] b = tt
     all (a ∷ xs) (b, bs) = ((b.0, InStage-mono axioms F G h k b.0 b.1, b.2), all xs bs)
 
-pub FactsEntail-mono : (kb : Knowledge) (q : Query) (tuple : List ℕ) (S T : ℕ → Type 0) → ((i : ℕ) → S i → T i) → FactsEntail kb S q tuple → FactsEntail kb T q tuple
+pub FactsEntail-mono : (kb : Knowledge) (q : Query) (tuple : List ℕ) (S T : ℕ → Type 0) → ((i : ℕ) → S i → T i) → FactsEntail kb S q tuple
+    → FactsEntail kb T q tuple
 FactsEntail-mono kb q tuple S T h e = Entails-mono kb.axioms _ _ (facts_in-mono kb S T h) q tuple e
 
 pub brave_by_one : (kb : Knowledge) (own : ℕ → Bool) (clash : ℕ → ℕ → Bool) → TellConflicts kb own clash → (head : List Term) (a : QAtom) (tuple : List ℕ)
-    → IsBrave kb mode.All (record { head = head; body = a ∷ [] }) tuple ↔ ((i : ℕ) × (i < length kb.facts) × AreConsistent kb (Only i) × FactsEntail kb (Only i) (record { head = head; body = a ∷ [] }) tuple)
+    → IsBrave kb mode.All (record { head = head; body = a ∷ [] }) tuple
+    ↔ ((i : ℕ) × (i < length kb.facts) × AreConsistent kb (Only i) × FactsEntail kb (Only i) (record { head = head; body = a ∷ [] }) tuple)
 brave_by_one kb own clash tell head a tuple = (to, from)
   where
     q : Query
     q = record { head = head; body = a ∷ [] }
 
-    one : (R : ℕ → Bool) → AreConsistent kb (In R) → FactsEntail kb (In R) q tuple → (i : ℕ) × (i < length kb.facts) × AreConsistent kb (Only i) × FactsEntail kb (Only i) q tuple
+    one : (R : ℕ → Bool) → AreConsistent kb (In R) → FactsEntail kb (In R) q tuple → (i : ℕ) × (i < length kb.facts) × AreConsistent kb (Only i)
+        × FactsEntail kb (Only i) q tuple
     one R c (k, (v, h, ((x, s, m), u))) =
         let d = descends kb.axioms (facts_in kb (In R)) k x s in
         let i : ℕ = d.1.0 in (

@@ -1,5 +1,6 @@
 -- What moves reach from a query stays among finitely many queries.
-use Rattle.std.proofs.Common.{◌≡◌, ℕ, zero, suc, ◌<◌, ◌≤◌, ◌⊎◌, inl, inr, List, [], ◌∷◌, length, map, filter, Contains, refl, sym, subst, ap, ◌∙◌, arith, Bool, true, false, not, cond, ◌==◌, Some, None, slice_get, slice_set}
+use Rattle.std.proofs.Common.{◌≡◌, ℕ, zero, suc, ◌<◌, ◌≤◌, ◌⊎◌, inl, inr, List, [], ◌∷◌, length, map, filter, Contains, refl, sym, subst, ap, ◌∙◌, arith}
+use Rattle.std.proofs.Common.{Bool, true, false, not, cond, ◌==◌, Some, None, slice_get, slice_set}
 use Rattle.std.specs.Prelude.{nat_lt}
 use Rattle.std.specs.Ordering.{is_le}
 use Rattle.std.specs.List.{AllByRecursion}
@@ -13,7 +14,8 @@ use Rattle.cq_terms.specs.declared.query.Term.TheVariants.{Var, Ind, Any}
 use Rattle.cq_terms.specs.declared.query.QAtom.{QAtom}
 use Rattle.cq_terms.specs.declared.query.QAtom.TheVariants as atom
 use Rattle.cq_terms.specs.Query.{Query}
-use Rattle.cq_meaning.specs.NormalForm.{map_atom, same_atom, distinct_atoms, is_unbound, unbound_to_any, with_unbound_any, simplified, atom_cmp, insert, sorted, normal, substitute, without}
+use Rattle.cq_meaning.specs.NormalForm.{map_atom, same_atom, distinct_atoms, is_unbound, unbound_to_any, with_unbound_any, simplified, atom_cmp, insert}
+use Rattle.cq_meaning.specs.NormalForm.{sorted, normal, substitute, without}
 use Rattle.cq_meaning.specs.Rewriting.{role_at, basic_at, IsAxiomStep, unifier, merged, IsUnified, IsSuccessor}
 use Rattle.cq_meaning.proofs.Places.{some_inj}
 use Rattle.cq_meaning.proofs.Settled.{length_map, filter_least}
@@ -139,7 +141,8 @@ module _ (N : ℕ) where
   small_basic (basic.Has r) t l h = small_role r t Any l h tt
 
   small_step : (rule : Axiom) (x y : QAtom) → SmallAxiom rule → SmallAtom x → IsAxiomStep rule x y → SmallAtom y
-  small_step (Sub b (basic.Concept a)) x y l h (t, e, d) = let w : SmallAtom (atom.Concept a t) = subst SmallAtom e h in subst SmallAtom (sym d) (small_basic b t l w.1)
+  small_step (Sub b (basic.Concept a)) x y l h (t, e, d) = let w : SmallAtom (atom.Concept a t) = subst SmallAtom e h in
+      subst SmallAtom (sym d) (small_basic b t l w.1)
   small_step (Sub b (basic.Has r)) x y l h (t, e, d) = subst SmallAtom (sym d) (small_basic b t l (role_small r t Any (subst SmallAtom e h)).0)
   small_step (SubRole r q) x y l h (s, t, e, d) = let w = role_small q s t (subst SmallAtom e h) in subst SmallAtom (sym d) (small_role r s t l w.0 w.1)
   small_step (Disjoint b c) x y l h s = absurd s
@@ -218,7 +221,13 @@ module _ (N : ℕ) where
         let p : Query = record { head = q.head; body = distinct_atoms q.body } in
         let m = length_map (map_atom (unbound_to_any p)) (distinct_atoms q.body) in
         let l = len_distinct q.body in
-        small_simplified k (with_unbound_any p) (a, b, omega (arith, m, l, c), have_map SmallAtom (map_atom (unbound_to_any p)) (small_mapped (unbound_to_any p) (keeps_unbound p)) (distinct_atoms q.body) (have_distinct SmallAtom q.body d))
+        small_simplified k (with_unbound_any p) (
+          a,
+          b,
+          omega (arith, m, l, c),
+          have_map SmallAtom (map_atom (unbound_to_any p)) (small_mapped (unbound_to_any p) (keeps_unbound p)) (distinct_atoms q.body)
+              (have_distinct SmallAtom q.body d),
+        )
 
     pub small_normal : (q : Query) → SmallQuery h n q → SmallQuery h n (normal q)
     small_normal q s =
@@ -226,10 +235,16 @@ module _ (N : ℕ) where
         let l = len_sorted (simplified (suc (length q.body)) q).body in
         (r.0, r.1, omega (arith, l, r.2), have_sorted SmallAtom (simplified (suc (length q.body)) q).body r.3)
 
-    small_step_to : (axioms : List Axiom) → ((rule : Axiom) → Contains axioms rule → SmallAxiom rule) → (q r : Query) → SmallQuery h n q → StepsTo axioms q r → SmallQuery h n r
+    small_step_to : (axioms : List Axiom) → ((rule : Axiom) → Contains axioms rule → SmallAxiom rule) → (q r : Query) → SmallQuery h n q → StepsTo axioms q r
+        → SmallQuery h n r
     small_step_to axioms small q r s (inl (i, rule, c, (x, y, g, st, d))) =
         let sx = have_get SmallAtom q.body i x s.3 g in
-        subst (SmallQuery h n) (sym d) (s.0, s.1, subst (λ m. m ≤ n) (sym (len_set q.body i y)) s.2, have_set SmallAtom q.body i y s.3 (small_step rule x y (small rule c) sx st))
+        subst (SmallQuery h n) (sym d) (
+          s.0,
+          s.1,
+          subst (λ m. m ≤ n) (sym (len_set q.body i y)) s.2,
+          have_set SmallAtom q.body i y s.3 (small_step rule x y (small rule c) sx st),
+        )
     small_step_to axioms small q r s (inr (i, j, (x, y, f, z, l, g, g', u, d))) =
         let w = small_unified x y f z u (have_get SmallAtom q.body i x s.3 g) (have_get SmallAtom q.body j y s.3 g') in
         let a = len_set (map (map_atom f) (without q.body j)) i z in
@@ -240,18 +255,23 @@ module _ (N : ℕ) where
           omega (arith, m, s.0),
           have_map SmallTerm f w.0 q.head s.1,
           omega (arith, a, b, k, s.2),
-          have_set SmallAtom (map (map_atom f) (without q.body j)) i z (have_map SmallAtom (map_atom f) (small_mapped f w.0) (without q.body j) (have_without SmallAtom q.body j s.3)) w.1,
+          have_set SmallAtom (map (map_atom f) (without q.body j)) i z
+              (have_map SmallAtom (map_atom f) (small_mapped f w.0) (without q.body j) (have_without SmallAtom q.body j s.3)) w.1,
         )
 
-    pub small_successor : (axioms : List Axiom) → ((rule : Axiom) → Contains axioms rule → SmallAxiom rule) → (q p : Query) → SmallQuery h n q → IsSuccessor axioms q p → SmallQuery h n p
-    small_successor axioms small q p s w = let t = step_of axioms q p w in subst (SmallQuery h n) (sym t.2) (small_normal t.0 (small_step_to axioms small q t.0 s t.1))
+    pub small_successor : (axioms : List Axiom) → ((rule : Axiom) → Contains axioms rule → SmallAxiom rule) → (q p : Query) → SmallQuery h n q
+        → IsSuccessor axioms q p → SmallQuery h n p
+    small_successor axioms small q p s w = let t = step_of axioms q p w in
+        subst (SmallQuery h n) (sym t.2) (small_normal t.0 (small_step_to axioms small q t.0 s t.1))
 
     -- ---- finitely many
 
     terms : Listed SmallTerm
     terms = listed_like (λ (t : Term). (t ≡ Any) ⊎ (((l : ℕ) × (l < N) × (t ≡ Var l)) ⊎ ((c : ℕ) × (c < N) × (t ≡ Ind c)))) SmallTerm to from
-        (listed_either (λ (t : Term). t ≡ Any) (λ (t : Term). ((l : ℕ) × (l < N) × (t ≡ Var l)) ⊎ ((c : ℕ) × (c < N) × (t ≡ Ind c))) (listed_one (λ (t : Term). t ≡ Any) Any refl (λ x e. e))
-        (listed_either (λ (t : Term). (l : ℕ) × (l < N) × (t ≡ Var l)) (λ (t : Term). (c : ℕ) × (c < N) × (t ≡ Ind c)) (listed_map (λ l. l < N) Var (listed_below N)) (listed_map (λ c. c < N) Ind (listed_below N))))
+        (listed_either (λ (t : Term). t ≡ Any) (λ (t : Term). ((l : ℕ) × (l < N) × (t ≡ Var l)) ⊎ ((c : ℕ) × (c < N) × (t ≡ Ind c)))
+        (listed_one (λ (t : Term). t ≡ Any) Any refl (λ x e. e))
+        (listed_either (λ (t : Term). (l : ℕ) × (l < N) × (t ≡ Var l)) (λ (t : Term). (c : ℕ) × (c < N) × (t ≡ Ind c))
+        (listed_map (λ l. l < N) Var (listed_below N)) (listed_map (λ c. c < N) Ind (listed_below N))))
       where
         to : (t : Term) → (t ≡ Any) ⊎ (((l : ℕ) × (l < N) × (t ≡ Var l)) ⊎ ((c : ℕ) × (c < N) × (t ≡ Ind c))) → SmallTerm t
         to t (inl e) = subst SmallTerm (sym e) tt
@@ -278,7 +298,8 @@ module _ (N : ℕ) where
     atoms : Listed SmallAtom
     atoms = listed_like (λ (x : QAtom). AsConcept x ⊎ AsLink x) SmallAtom to from
         (listed_either AsConcept AsLink (listed_both (λ a. a < N) SmallTerm atom.Concept (listed_below N) terms)
-        (listed_both (λ p. p < N) Pairs (λ (p : ℕ) (w : Term × Term). atom.Link p w.0 w.1) (listed_below N) (listed_both SmallTerm SmallTerm (λ (s t : Term). (s, t)) terms terms)))
+        (listed_both (λ p. p < N) Pairs (λ (p : ℕ) (w : Term × Term). atom.Link p w.0 w.1) (listed_below N)
+        (listed_both SmallTerm SmallTerm (λ (s t : Term). (s, t)) terms terms)))
       where
         to : (x : QAtom) → AsConcept x ⊎ AsLink x → SmallAtom x
         to x (inl (a, l, (t, h, e))) = subst SmallAtom (sym e) (l, h)
@@ -295,5 +316,6 @@ module _ (N : ℕ) where
             → (bs : List (List QAtom)) × ((xs : List QAtom) → length xs ≤ n → AllByRecursion SmallAtom xs → Contains bs xs)
             → (qs : List Query) × ((q : Query) → SmallQuery h n q → Contains qs q)
         go (hs, f) (bs, g) =
-            let l = listed_both (Contains hs) (Contains bs) (λ (x : List Term) (y : List QAtom). record { head = x; body = y }) (hs, λ x. ((λ c. c), (λ c. c))) (bs, λ x. ((λ c. c), (λ c. c))) in
+            let l = listed_both (Contains hs) (Contains bs) (λ (x : List Term) (y : List QAtom). record { head = x; body = y })
+            (hs, λ x. ((λ c. c), (λ c. c))) (bs, λ x. ((λ c. c), (λ c. c))) in
             (l.0, λ q s. (l.1 q).1 (q.head, f q.head s.0 s.1, (q.body, g q.body s.2 s.3, refl)))

@@ -1,5 +1,6 @@
 -- The staff register: the two facts conflict, and Staff(ann) is brave, neither AR nor IAR.
-use Rattle.std.proofs.Common.{◌≡◌, ℕ, zero, suc, ◌⊎◌, inl, inr, [], ◌∷◌, Contains, refl, sym, subst, arith, Some, slice_get, Bool, eqb, ◌<◌, eqb-true, true≢false, IsFalse}
+use Rattle.std.proofs.Common.{◌≡◌, ℕ, zero, suc, ◌⊎◌, inl, inr, [], ◌∷◌, Contains, refl, sym, subst, arith, Some, slice_get, Bool, eqb, ◌<◌, eqb-true}
+use Rattle.std.proofs.Common.{true≢false, IsFalse}
 use Rattle.cq_terms.specs.declared.axioms.Axiom.{Axiom}
 use Rattle.cq_terms.specs.declared.facts.Fact.{Fact}
 use Rattle.cq_terms.specs.declared.facts.Fact.TheVariants as fact
@@ -27,7 +28,8 @@ has_student = Contains-later prof_is_staff (student_is_not_staff ∷ []) student
 
 -- a consequence under the register's axioms is a Staff atom, of what is in Prof
 register_derives : (x y : Atom) → Derives staff_register.axioms x y → (t : Node) × (x ≡ ConceptAtom 0 t) × (y ≡ ConceptAtom 1 t)
-register_derives x y (rule, m, c) = each (λ r. IsConsequence r x y → (t : Node) × (x ≡ ConceptAtom 0 t) × (y ≡ ConceptAtom 1 t)) (λ d. d) (λ d. absurd d) rule m c
+register_derives x y (rule, m, c) = each (λ r. IsConsequence r x y → (t : Node) × (x ≡ ConceptAtom 0 t) × (y ≡ ConceptAtom 1 t)) (λ d. d) (λ d. absurd d) rule
+    m c
 
 -- the first fact, and the second
 first : (f : Fact) → facts_in staff_register (Only 0) f → fact.Concept 0 0 ≡ f
@@ -59,14 +61,16 @@ student_chase = InStage-keeps staff_register.axioms (facts_in staff_register (On
     go x y e (t, d, f) = absurd (cc)
 
 pub prof_alone : AreConsistent staff_register (Only 0)
-prof_alone k rule m v = each (λ r. Violates staff_register.axioms (facts_in staff_register (Only 0)) k r → ⊥) (λ v. v) (λ v. go v.0 v.1.0 v.1.2 (prof_chase k v.1.0 v.1.1)) rule m v
+prof_alone k rule m v = each (λ r. Violates staff_register.axioms (facts_in staff_register (Only 0)) k r → ⊥) (λ v. v)
+    (λ v. go v.0 v.1.0 v.1.2 (prof_chase k v.1.0 v.1.1)) rule m v
   where
     go : (t : Node) (x : Atom) → x ≡ ConceptAtom 2 t → IsProfOrStaff x → ⊥
     go t x e (inl d) = cc
     go t x e (inr d) = cc
 
 student_alone : AreConsistent staff_register (Only 1)
-student_alone k rule m v = each (λ r. Violates staff_register.axioms (facts_in staff_register (Only 1)) k r → ⊥) (λ v. v) (λ v. go v.0 v.2.0 v.2.2 (student_chase k v.2.0 v.2.1)) rule m v
+student_alone k rule m v = each (λ r. Violates staff_register.axioms (facts_in staff_register (Only 1)) k r → ⊥) (λ v. v)
+    (λ v. go v.0 v.2.0 v.2.2 (student_chase k v.2.0 v.2.1)) rule m v
   where
     go : (t : Node) (x : Atom) → x ≡ ConceptAtom 1 t → x ≡ ConceptAtom 2 (Named 0) → ⊥
     go t x e d = cc
@@ -80,7 +84,11 @@ staff_conflict = record {
   together = λ c. c 1 student_is_not_staff has_student (
     Named 0,
     (ConceptAtom 2 (Named 0), inl (fact.Concept 2 0, (1, inr refl, refl), refl), refl),
-    (ConceptAtom 1 (Named 0), inr (ConceptAtom 0 (Named 0), (fact.Concept 0 0, (0, inl refl, refl), refl), (prof_is_staff, has_prof, (Named 0, refl, refl))), refl),
+    (
+      ConceptAtom 1 (Named 0),
+      inr (ConceptAtom 0 (Named 0), (fact.Concept 0 0, (0, inl refl, refl), refl), (prof_is_staff, has_prof, (Named 0, refl, refl))),
+      refl,
+    ),
   );
 }
 
@@ -139,4 +147,5 @@ pub staff_not_ar : ¬ IsAr staff_register mode.All staff_query (0 ∷ [])
 staff_not_ar h = not_staff (h just_student just_student_chosen)
 
 pub staff_not_iar : ¬ IsIar staff_register mode.All staff_query (0 ∷ [])
-staff_not_iar h = not_staff (Entails-mono staff_register.axioms _ _ (facts_in-mono staff_register _ (In just_student) (λ i all. all just_student just_student_chosen)) staff_query (0 ∷ []) h)
+staff_not_iar h = not_staff (Entails-mono staff_register.axioms _ _
+    (facts_in-mono staff_register _ (In just_student) (λ i all. all just_student just_student_chosen)) staff_query (0 ∷ []) h)

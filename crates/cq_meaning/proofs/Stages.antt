@@ -28,15 +28,18 @@ InStage-later axioms F k (suc m) x l s = go (cases_lt m k) (λ h. InStage-later 
     go (inr h) again = inl (again h)
 
 -- what holds of the facts' atoms, and goes from an atom to its consequences, holds of each stage
-pub InStage-keeps : (axioms : List Axiom) (F : Fact → Type 0) (P : Atom → Type 0) → ((f : Fact) → F f → P (atom_of f)) → ((x y : Atom) → P x → Derives axioms x y → P y) → (k : ℕ) (x : Atom) → InStage axioms F k x → P x
+pub InStage-keeps : (axioms : List Axiom) (F : Fact → Type 0) (P : Atom → Type 0) → ((f : Fact) → F f → P (atom_of f))
+    → ((x y : Atom) → P x → Derives axioms x y → P y) → (k : ℕ) (x : Atom) → InStage axioms F k x → P x
 InStage-keeps axioms F P start step zero x (f, p, e) = subst P (sym e) (start f p)
 InStage-keeps axioms F P start step (suc k) x (inl s) = InStage-keeps axioms F P start step k x s
 InStage-keeps axioms F P start step (suc k) x (inr (y, s, r)) = step y x (InStage-keeps axioms F P start step k y s) r
 
-pub HasMember-mono : (axioms : List Axiom) (F G : Fact → Type 0) → ((f : Fact) → F f → G f) → (k : ℕ) (t : _) (b : _) → HasMember axioms F k t b → HasMember axioms G k t b
+pub HasMember-mono : (axioms : List Axiom) (F G : Fact → Type 0) → ((f : Fact) → F f → G f) → (k : ℕ) (t : _) (b : _) → HasMember axioms F k t b
+    → HasMember axioms G k t b
 HasMember-mono axioms F G h k t b (x, s, p) = (x, InStage-mono axioms F G h k x s, p)
 
-pub Violates-mono : (axioms : List Axiom) (F G : Fact → Type 0) → ((f : Fact) → F f → G f) → (k : ℕ) (rule : Axiom) → Violates axioms F k rule → Violates axioms G k rule
+pub Violates-mono : (axioms : List Axiom) (F G : Fact → Type 0) → ((f : Fact) → F f → G f) → (k : ℕ) (rule : Axiom) → Violates axioms F k rule
+    → Violates axioms G k rule
 Violates-mono axioms F G h k (Disjoint b c) (t, m, n) = (t, HasMember-mono axioms F G h k t b m, HasMember-mono axioms F G h k t c n)
 Violates-mono axioms F G h k (DisjointRole r q) (s, t, m, n) = (s, t, InStage-mono axioms F G h k _ m, InStage-mono axioms F G h k _ n)
 Violates-mono axioms F G h k (Sub b c) v = v
@@ -51,7 +54,8 @@ pub Consistent-stable : (axioms : List Axiom) (F : Fact → Type 0) → ¬ (¬ C
 Consistent-stable axioms F n k rule m v = n (λ c. c k rule m v)
 
 -- what two facts violate, those two do by themselves
-pub Violates-two : (axioms : List Axiom) (F : Fact → Type 0) (k : ℕ) (rule : Axiom) → Violates axioms F k rule → (f : Fact) × (g : Fact) × F f × F g × Violates axioms (λ h. (h ≡ f) ⊎ (h ≡ g)) k rule
+pub Violates-two : (axioms : List Axiom) (F : Fact → Type 0) (k : ℕ) (rule : Axiom) → Violates axioms F k rule → (f : Fact) × (g : Fact) × F f × F g
+    × Violates axioms (λ h. (h ≡ f) ⊎ (h ≡ g)) k rule
 Violates-two axioms F k (Disjoint b c) (t, (x, s, p), (y, s', p')) =
     let d = descends axioms F k x s in
     let d' = descends axioms F k y s' in

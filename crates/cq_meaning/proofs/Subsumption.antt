@@ -1,5 +1,6 @@
 -- Subsumption of concept names can be decided, and it tells the verdicts.
-use Rattle.std.proofs.Common.{◌≡◌, ℕ, zero, suc, ◌<◌, ◌≤◌, ◌⊎◌, ◌↔◌, inl, inr, List, [], ◌∷◌, All, Contains, refl, sym, subst, ap, ◌∙◌, Bool, true, false, ◌&&◌, ◌||◌, ◌==◌, eqb-true, eq-eqb, true≢false, length, slice_get, Some, not, arith}
+use Rattle.std.proofs.Common.{◌≡◌, ℕ, zero, suc, ◌<◌, ◌≤◌, ◌⊎◌, ◌↔◌, inl, inr, List, [], ◌∷◌, All, Contains, refl, sym, subst, ap, ◌∙◌, Bool, true, false}
+use Rattle.std.proofs.Common.{◌&&◌, ◌||◌, ◌==◌, eqb-true, eq-eqb, true≢false, length, slice_get, Some, not, arith}
 use Rattle.std.proofs.lemmas.Bool.{or_cases, cases_Bool}
 use Rattle.std.proofs.lemmas.List.Elements.{All-contains}
 use Rattle.std.proofs.lemmas.Option.{slice_get_within, slice_get_cases, get_or_from_slice_get}
@@ -13,7 +14,8 @@ use Rattle.cq_terms.specs.declared.query.Term.TheVariants.{Var}
 use Rattle.cq_terms.specs.declared.query.QAtom.TheVariants as atom
 use Rattle.cq_terms.specs.Knowledge.{Knowledge}
 use Rattle.cq_meaning.specs.Candidates.{Every, concept_query, IsWitness}
-use Rattle.cq_meaning.specs.ConceptNames.{IsOfNames, IsOfName, Includes, IsSubsumed, IsUnsatisfiable, PutsInto, PutsSafelyInto, AreApart, ClashByNames, TellsIncluded, splits, meets, own_test, clash_test}
+use Rattle.cq_meaning.specs.ConceptNames.{IsOfNames, IsOfName, Includes, IsSubsumed, IsUnsatisfiable, PutsInto, PutsSafelyInto, AreApart, ClashByNames}
+use Rattle.cq_meaning.specs.ConceptNames.{TellsIncluded, splits, meets, own_test, clash_test}
 use Rattle.cq_meaning.specs.Conflicts.{Only, Both, FactsEntail, IsSelfInconsistent, Conflict, TellConflicts}
 use Rattle.cq_meaning.specs.Laws.{VerdictsByNames}
 use Rattle.cq_meaning.specs.Repairs.{IsBrave}
@@ -60,7 +62,8 @@ subsumed_sound (rule ∷ rest) a b t = go (or_cases (subsumed rest a b) (joined_
     later : (a b : ℕ) → IsSubsumed rest a b → IsSubsumed (rule ∷ rest) a b
     later a b (n, i) = (n, Includes-later rule rest n a b i)
 
-    by : (r : Axiom) → r ≡ rule → ((a b : ℕ) → subsumed rest a b ≡ true → IsSubsumed rest a b) → joined_by r (subsumed rest) a b ≡ true → IsSubsumed (rule ∷ rest) a b
+    by : (r : Axiom) → r ≡ rule → ((a b : ℕ) → subsumed rest a b ≡ true → IsSubsumed rest a b) → joined_by r (subsumed rest) a b ≡ true
+        → IsSubsumed (rule ∷ rest) a b
     by (Sub (Concept x) (Concept y)) e again h =
         let p = and_both (subsumed rest a x) (subsumed rest y b) h in
         let on = IsSubsumed-step (rule ∷ rest) a x y (later a x (again a x p.0)) (subst (Contains (rule ∷ rest)) (sym e) (Contains-head rule rest)) in
@@ -72,7 +75,8 @@ subsumed_sound (rule ∷ rest) a b t = go (or_cases (subsumed rest a b) (joined_
     by (SubRole r q) e again h = absurd (true≢false (sym h))
     by (DisjointRole r q) e again h = absurd (true≢false (sym h))
 
-    go : (subsumed rest a b ≡ true) ⊎ (joined_by rule (subsumed rest) a b ≡ true) → ((a b : ℕ) → subsumed rest a b ≡ true → IsSubsumed rest a b) → IsSubsumed (rule ∷ rest) a b
+    go : (subsumed rest a b ≡ true) ⊎ (joined_by rule (subsumed rest) a b ≡ true) → ((a b : ℕ) → subsumed rest a b ≡ true → IsSubsumed rest a b)
+        → IsSubsumed (rule ∷ rest) a b
     go (inl h) again = later a b (again a b h)
     go (inr h) again = by rule refl again h
 
@@ -120,7 +124,8 @@ module _ (kb : Knowledge) (all_names : All IsOfNames kb.axioms) (all_facts : All
   tells : TellsIncluded kb included
   tells i a c b e = (subsumed_sound kb.axioms a b, subsumed_complete kb.axioms a b)
 
-  tell : TellConflicts kb (λ i. own_test included kb.axioms (slice_get kb.facts i)) (λ i j. clash_test included kb.axioms (slice_get kb.facts i) (slice_get kb.facts j))
+  tell : TellConflicts kb (λ i. own_test included kb.axioms (slice_get kb.facts i))
+      (λ i j. clash_test included kb.axioms (slice_get kb.facts i) (slice_get kb.facts j))
   tell = names_tell kb names facts included tells
 
   -- a name that meets itself is unsatisfiable
@@ -145,7 +150,8 @@ module _ (kb : Knowledge) (all_names : All IsOfNames kb.axioms) (all_facts : All
   meeting : (a : ℕ) → IsUnsatisfiable kb.axioms a → meets included kb.axioms a a ≡ true
   meeting a (x, y, m, p, q) =
       some_passes (λ rule. splits included rule a a) kb.axioms (Disjoint (Concept x) (Concept y)) m (
-      or_left (included a x && included a y) (included a x && included a y) (and_true (included a x) (included a y) (subsumed_complete kb.axioms a x p) (subsumed_complete kb.axioms a y q))
+      or_left (included a x && included a y) (included a x && included a y)
+      (and_true (included a x) (included a y) (subsumed_complete kb.axioms a x p) (subsumed_complete kb.axioms a y q))
       )
 
   -- a fact is self-inconsistent exactly where its name is unsatisfiable
@@ -215,11 +221,13 @@ module _ (kb : Knowledge) (all_names : All IsOfNames kb.axioms) (all_facts : All
   meeting_apart : (a b : ℕ) → AreApart kb.axioms a b → meets included kb.axioms a b ≡ true
   meeting_apart a b (x, y, p, q, inl m) =
       some_passes (λ rule. splits included rule a b) kb.axioms (Disjoint (Concept x) (Concept y)) m (
-      or_left (included a x && included b y) (included b x && included a y) (and_true (included a x) (included b y) (subsumed_complete kb.axioms a x p) (subsumed_complete kb.axioms b y q))
+      or_left (included a x && included b y) (included b x && included a y)
+      (and_true (included a x) (included b y) (subsumed_complete kb.axioms a x p) (subsumed_complete kb.axioms b y q))
       )
   meeting_apart a b (x, y, p, q, inr m) =
       some_passes (λ rule. splits included rule a b) kb.axioms (Disjoint (Concept y) (Concept x)) m (
-      or_right (included a y && included b x) (included b y && included a x) (and_true (included b y) (included a x) (subsumed_complete kb.axioms b y q) (subsumed_complete kb.axioms a x p))
+      or_right (included a y && included b x) (included b y && included a x)
+      (and_true (included b y) (included a x) (subsumed_complete kb.axioms b y q) (subsumed_complete kb.axioms a x p))
       )
 
   -- a number in a conflict is that of a fact
@@ -246,7 +254,8 @@ module _ (kb : Knowledge) (all_names : All IsOfNames kb.axioms) (all_facts : All
 
   -- the test of two facts, by their names
   test_of : (i j a b t u : ℕ) → slice_get kb.facts i ≡ Some (fact.Concept a t) → slice_get kb.facts j ≡ Some (fact.Concept b u)
-      → clash_test included kb.axioms (slice_get kb.facts i) (slice_get kb.facts j) ≡ (t == u && (not (meets included kb.axioms a a) && (not (meets included kb.axioms b b) && meets included kb.axioms a b)))
+      → clash_test included kb.axioms (slice_get kb.facts i) (slice_get kb.facts j)
+      ≡ (t == u && (not (meets included kb.axioms a a) && (not (meets included kb.axioms b b) && meets included kb.axioms a b)))
   test_of i j a b t u e d = ap (λ o. clash_test included kb.axioms o (slice_get kb.facts j)) e ∙ ap (clash_test included kb.axioms (Some (fact.Concept a t))) d
 
   safe_not_met : (a : ℕ) → ¬ IsUnsatisfiable kb.axioms a → not (meets included kb.axioms a a) ≡ true
@@ -257,7 +266,8 @@ module _ (kb : Knowledge) (all_names : All IsOfNames kb.axioms) (all_facts : All
   conflicts_by_names i j = (to, from)
     where
       of_test : (a b t u : ℕ) → slice_get kb.facts i ≡ Some (fact.Concept a t) → slice_get kb.facts j ≡ Some (fact.Concept b u) → Conflict kb i j
-          → (t == u && (not (meets included kb.axioms a a) && (not (meets included kb.axioms b b) && meets included kb.axioms a b))) ≡ true → ClashByNames kb i j
+          → (t == u && (not (meets included kb.axioms a a) && (not (meets included kb.axioms b b) && meets included kb.axioms a b))) ≡ true
+          → ClashByNames kb i j
       of_test a b t u e d w h =
           let p = and_both (t == u) (not (meets included kb.axioms a a) && (not (meets included kb.axioms b b) && meets included kb.axioms a b)) h in
           let q = and_both (not (meets included kb.axioms a a)) (not (meets included kb.axioms b b) && meets included kb.axioms a b) p.1 in
@@ -289,7 +299,9 @@ module _ (kb : Knowledge) (all_names : All IsOfNames kb.axioms) (all_facts : All
           let a = w.left in
           let b = w.right in
           let same : (w.individual == w.individual) ≡ true = eq-eqb w.individual w.individual refl in
-          let h = and_true (w.individual == w.individual) (not (meets included kb.axioms a a) && (not (meets included kb.axioms b b) && meets included kb.axioms a b)) same
-          (and_true (not (meets included kb.axioms a a)) (not (meets included kb.axioms b b) && meets included kb.axioms a b) (safe_not_met a w.left_satisfiable)
+          let h = and_true (w.individual == w.individual) (not (meets included kb.axioms a a)
+          && (not (meets included kb.axioms b b) && meets included kb.axioms a b)) same
+          (and_true (not (meets included kb.axioms a a)) (not (meets included kb.axioms b b) && meets included kb.axioms a b)
+          (safe_not_met a w.left_satisfiable)
           (and_true (not (meets included kb.axioms b b)) (meets included kb.axioms a b) (safe_not_met b w.right_satisfiable) (meeting_apart a b w.apart))) in
           (tell.clash_iff i j il jl).0 (test_of i j a b w.individual w.individual w.left_fact w.right_fact ∙ h)

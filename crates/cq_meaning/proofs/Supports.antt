@@ -25,13 +25,16 @@ use Rattle.cq_meaning.proofs.Exact.{rewriting_sound, rewriting_complete}
 -- ---- the facts of an image
 
 pub image_has : (F : Fact → Type 0) (q : Query) (tuple : List ℕ) (image : List Fact) → Match q F tuple image → (f : Fact) → Contains image f → F f
-image_has F q tuple image (v, h, b) f c = let w = slice_get-Contains image f c in (AllZip-get_back (λ a g. F g × AtomBecomes (λ i. Named (v i)) a (atom_of g)) q.body image b w.0 f w.1).2.0
+image_has F q tuple image (v, h, b) f c = let w = slice_get-Contains image f c in
+    (AllZip-get_back (λ a g. F g × AtomBecomes (λ i. Named (v i)) a (atom_of g)) q.body image b w.0 f w.1).2.0
 
 -- a match in facts of which those of its image have a property
-pub Match-image : (F G : Fact → Type 0) (q : Query) (tuple : List ℕ) (image : List Fact) → ((f : Fact) → Contains image f → F f → G f) → Match q F tuple image → Match q G tuple image
+pub Match-image : (F G : Fact → Type 0) (q : Query) (tuple : List ℕ) (image : List Fact) → ((f : Fact) → Contains image f → F f → G f) → Match q F tuple image
+    → Match q G tuple image
 Match-image F G q tuple image k (v, h, b) = (v, h, go q.body image k b)
   where
-    go : (body : List QAtom) (image : List Fact) → ((f : Fact) → Contains image f → F f → G f) → AllZip (λ a f. F f × AtomBecomes (λ i. Named (v i)) a (atom_of f)) body image
+    go : (body : List QAtom) (image : List Fact) → ((f : Fact) → Contains image f → F f → G f)
+        → AllZip (λ a f. F f × AtomBecomes (λ i. Named (v i)) a (atom_of f)) body image
         → AllZip (λ a f. G f × AtomBecomes (λ i. Named (v i)) a (atom_of f)) body image
     go [] [] k h = tt
     go [] (f ∷ image) k h = absurd h
@@ -67,10 +70,12 @@ image_of facts q tuple image m =
 
 module _ (kb : Knowledge) (q : Query) (tuple : List ℕ) where
   -- what a set entails has a support, whose facts are in the set
-  pub support_found : (S : ℕ → Type 0) → FactsEntail kb S q tuple → (numbers : List ℕ) × IsSupport kb q tuple numbers × ((i : ℕ) (f : Fact) → Contains numbers i → slice_get kb.facts i ≡ Some f → facts_in kb S f)
+  pub support_found : (S : ℕ → Type 0) → FactsEntail kb S q tuple → (numbers : List ℕ) × IsSupport kb q tuple numbers
+      × ((i : ℕ) (f : Fact) → Contains numbers i → slice_get kb.facts i ≡ Some f → facts_in kb S f)
   support_found S e =
       let w = rewriting_complete kb.axioms (facts_in kb S) q tuple e in
-      let m : Match w.0 (Contains kb.facts) tuple w.1 = Match-image (facts_in kb S) (Contains kb.facts) w.0 tuple w.1 (λ f c (i, s, d). Contains-slice_get kb.facts i f d) w.3 in
+      let m : Match w.0 (Contains kb.facts) tuple w.1 = Match-image (facts_in kb S) (Contains kb.facts) w.0 tuple w.1
+      (λ f c (i, s, d). Contains-slice_get kb.facts i f d) w.3 in
       let n = image_of kb.facts w.0 tuple w.1 m in
       (n.0, (w.0, w.2, n.1), λ i f c d. let g = n.2 i c in image_has (facts_in kb S) w.0 tuple w.1 w.3 f (subst (Contains w.1) (some_inj (sym g.2 ∙ d)) g.1))
 
@@ -78,8 +83,10 @@ module _ (kb : Knowledge) (q : Query) (tuple : List ℕ) where
   pub support_entails : (numbers : List ℕ) → IsSupport kb q tuple numbers → FactsEntail kb (Contains numbers) q tuple
   support_entails numbers (member, inside, h) =
       let image = h.match.0 in
-      let there : (f : Fact) → Contains image f → Contains kb.facts f → facts_in kb (Contains numbers) f = λ f c d. let w = slice_get-Contains kb.facts f d in (w.0, (h.match.2 w.0).1 (f, c, w.1), w.1) in
-      rewriting_sound kb.axioms (facts_in kb (Contains numbers)) q member tuple image inside (Match-image (Contains kb.facts) (facts_in kb (Contains numbers)) member tuple image there h.match.1)
+      let there : (f : Fact) → Contains image f → Contains kb.facts f
+      → facts_in kb (Contains numbers) f = λ f c d. let w = slice_get-Contains kb.facts f d in (w.0, (h.match.2 w.0).1 (f, c, w.1), w.1) in
+      rewriting_sound kb.axioms (facts_in kb (Contains numbers)) q member tuple image inside
+      (Match-image (Contains kb.facts) (facts_in kb (Contains numbers)) member tuple image there h.match.1)
 
   -- each number of a support is that of a fact
   pub support_within : (numbers : List ℕ) → IsSupport kb q tuple numbers → (i : ℕ) → Contains numbers i → (f : Fact) × (slice_get kb.facts i ≡ Some f)
@@ -96,7 +103,8 @@ module _ (kb : Knowledge) (q : Query) (tuple : List ℕ) where
     pub support_in : (S : ℕ → Type 0) → FactsEntail kb S q tuple → (numbers : List ℕ) × IsSupport kb q tuple numbers × ((i : ℕ) → Contains numbers i → S i)
     support_in S e = let w = support_found S e in (w.0, w.1, λ i c. inside w.0 w.1 w.2 i c)
       where
-        inside : (numbers : List ℕ) → IsSupport kb q tuple numbers → ((i : ℕ) (f : Fact) → Contains numbers i → slice_get kb.facts i ≡ Some f → facts_in kb S f) → (i : ℕ) → Contains numbers i → S i
+        inside : (numbers : List ℕ) → IsSupport kb q tuple numbers → ((i : ℕ) (f : Fact) → Contains numbers i → slice_get kb.facts i ≡ Some f
+            → facts_in kb S f) → (i : ℕ) → Contains numbers i → S i
         inside numbers s h i c =
             let f = support_within numbers s i c in
             let w = h i f.0 c f.1 in
@@ -109,26 +117,33 @@ module _ (kb : Knowledge) (q : Query) (tuple : List ℕ) where
     )
 
     -- a cause has no smaller support
-    cause_least : (numbers : List ℕ) → IsAscending numbers → IsCause kb q tuple (Contains numbers) → (smaller : List ℕ) → IsSupport kb q tuple smaller → ((i : ℕ) → Contains smaller i → Contains numbers i) → smaller ≡ numbers
+    cause_least : (numbers : List ℕ) → IsAscending numbers → IsCause kb q tuple (Contains numbers) → (smaller : List ℕ) → IsSupport kb q tuple smaller
+        → ((i : ℕ) → Contains smaller i → Contains numbers i) → smaller ≡ numbers
     cause_least numbers a cause smaller s inside = ascending_same smaller numbers s.2.ascending a inside whole
       where
         whole : (i : ℕ) → Contains numbers i → Contains smaller i
         whole i c = elim (member cases_eq i smaller) [
           | inl d ↦ d
-          | inr n ↦ absurd (cause.least i c (FactsEntail-mono kb q tuple (Contains smaller) (Without i (Contains numbers)) (λ l d. (inside l d, λ e. n (subst (Contains smaller) e d))) (support_entails smaller s)))
+          | inr n ↦ absurd (cause.least i c (FactsEntail-mono kb q tuple (Contains smaller) (Without i (Contains numbers))
+              (λ l d. (inside l d, λ e. n (subst (Contains smaller) e d))) (support_entails smaller s)))
         ]
 
-    pub cause_is_support : (numbers : List ℕ) → IsAscending numbers → IsCause kb q tuple (Contains numbers) ↔ (IsSupport kb q tuple numbers × AreConsistent kb (Contains numbers)
+    pub cause_is_support : (numbers : List ℕ) → IsAscending numbers → IsCause kb q tuple (Contains numbers)
+        ↔ (IsSupport kb q tuple numbers × AreConsistent kb (Contains numbers)
         × ((smaller : List ℕ) → IsSupport kb q tuple smaller → All (Contains numbers) smaller → smaller ≡ numbers))
     cause_is_support numbers a = (there, back)
       where
         there : IsCause kb q tuple (Contains numbers) → IsSupport kb q tuple numbers × AreConsistent kb (Contains numbers)
             × ((smaller : List ℕ) → IsSupport kb q tuple smaller → All (Contains numbers) smaller → smaller ≡ numbers)
         there cause =
-            let w = support_in (Contains numbers) cause.entails in
-            (subst (IsSupport kb q tuple) (cause_least numbers a cause w.0 w.1 w.2) w.1, cause.consistent, λ smaller s h. cause_least numbers a cause smaller s (λ i c. All-contains (Contains numbers) smaller i h c))
+            let w = support_in (Contains numbers) cause.entails in (
+              subst (IsSupport kb q tuple) (cause_least numbers a cause w.0 w.1 w.2) w.1,
+              cause.consistent,
+              λ smaller s h. cause_least numbers a cause smaller s (λ i c. All-contains (Contains numbers) smaller i h c),
+            )
 
-        back : IsSupport kb q tuple numbers × AreConsistent kb (Contains numbers) × ((smaller : List ℕ) → IsSupport kb q tuple smaller → All (Contains numbers) smaller → smaller ≡ numbers) → IsCause kb q tuple (Contains numbers)
+        back : IsSupport kb q tuple numbers × AreConsistent kb (Contains numbers)
+            × ((smaller : List ℕ) → IsSupport kb q tuple smaller → All (Contains numbers) smaller → smaller ≡ numbers) → IsCause kb q tuple (Contains numbers)
         back (s, c, least) = record {
           consistent = c;
           entails = support_entails numbers s;

@@ -53,12 +53,18 @@ map_keeps v f k (atom.Concept p s) x (n, h, e) = (n, k s n h, e)
 map_keeps v f k (atom.Link p s t) x (m, n, h, h', e) = (m, n, k s m h, k t n h', e)
 
 -- two atoms that match one atom are unified, and the one that they become matches it too
-pub unifies_atoms : (v : ℕ → Node) (a b : QAtom) (x : Atom) → AtomBecomes v a x → AtomBecomes v b x → (f : Term → Term) × (z : QAtom) × IsUnified a b f z × Keeps v f × AtomBecomes v z x
+pub unifies_atoms : (v : ℕ → Node) (a b : QAtom) (x : Atom) → AtomBecomes v a x → AtomBecomes v b x → (f : Term → Term) × (z : QAtom) × IsUnified a b f z
+    × Keeps v f × AtomBecomes v z x
 unifies_atoms v (atom.Concept p s) (atom.Concept q t) x (n, h, e) (n', h', e') =
     let d : ConceptAtom p n ≡ ConceptAtom q n' = sym e ∙ e' in
     let ep : p ≡ q = cc in let en : n ≡ n' = cc in
-    let u = unifies v s t n h (subst (Becomes v t) (sym en) h') in
-    (u.0, atom.Concept p (merged (u.0 s) (u.0 t)), (ep, u.1, refl), u.2, (n, merged_becomes v (u.0 s) (u.0 t) n (u.2 s n h) (u.2 t n (subst (Becomes v t) (sym en) h')), e))
+    let u = unifies v s t n h (subst (Becomes v t) (sym en) h') in (
+      u.0,
+      atom.Concept p (merged (u.0 s) (u.0 t)),
+      (ep, u.1, refl),
+      u.2,
+      (n, merged_becomes v (u.0 s) (u.0 t) n (u.2 s n h) (u.2 t n (subst (Becomes v t) (sym en) h')), e),
+    )
 unifies_atoms v (atom.Link p s s') (atom.Link q t t') x (m, n, h, k, e) (m', n', h', k', e') =
     let d : RoleAtom p m n ≡ RoleAtom q m' n' = sym e ∙ e' in
     let ep : p ≡ q = cc in let em : m ≡ m' = cc in let en : n ≡ n' = cc in

@@ -88,8 +88,10 @@ unifier_meets (Var i) (Var j) f e = subst (λ (g : Term → Term). IsSubst g × 
     go : (b : Bool) → let g : Term → Term = cond b (substitute j (Var i)) (substitute i (Var j)) in IsSubst g × Meet (g (Var i)) (g (Var j))
     go true = (put_is_subst j (Var i) (λ e. cc), inl (put_same j i ∙ sym (put_there j (Var i))))
     go false = (put_is_subst i (Var j) (λ e. cc), inl (put_there i (Var j) ∙ sym (put_same i j)))
-unifier_meets (Var i) (Ind c) f e = subst (λ (g : Term → Term). IsSubst g × Meet (g (Var i)) (g (Ind c))) (some_inj e) (put_is_subst i (Ind c) (λ e. cc), inl (put_there i (Ind c)))
-unifier_meets (Ind c) (Var j) f e = subst (λ (g : Term → Term). IsSubst g × Meet (g (Ind c)) (g (Var j))) (some_inj e) (put_is_subst j (Ind c) (λ e. cc), inl (sym (put_there j (Ind c))))
+unifier_meets (Var i) (Ind c) f e = subst (λ (g : Term → Term). IsSubst g × Meet (g (Var i)) (g (Ind c))) (some_inj e)
+    (put_is_subst i (Ind c) (λ e. cc), inl (put_there i (Ind c)))
+unifier_meets (Ind c) (Var j) f e = subst (λ (g : Term → Term). IsSubst g × Meet (g (Ind c)) (g (Var j))) (some_inj e)
+    (put_is_subst j (Ind c) (λ e. cc), inl (sym (put_there j (Ind c))))
 unifier_meets (Ind c) (Ind d) f e = go (c == d) (λ h. eqb-true c d h) e
   where
     go : (b : Bool) → (b ≡ true → c ≡ d) → cond b (Some (λ (u : Term). u)) None ≡ Some f → IsSubst f × Meet (f (Ind c)) (f (Ind d))
@@ -110,13 +112,15 @@ meet_after h sh s t (inr (inl e)) = inr (inl (ap h e ∙ sh.any))
 meet_after h sh s t (inr (inr e)) = inr (inr (ap h e ∙ sh.any))
 
 -- what the one atom matches, both atoms match, before the substitution
-pub unified_back : (v : ℕ → Node) (a b : QAtom) (f : Term → Term) (z : QAtom) → IsUnified a b f z → IsSubst f × ((x : Atom) → AtomBecomes v z x → AtomBecomes (before v f) a x × AtomBecomes (before v f) b x)
+pub unified_back : (v : ℕ → Node) (a b : QAtom) (f : Term → Term) (z : QAtom) → IsUnified a b f z → IsSubst f
+    × ((x : Atom) → AtomBecomes v z x → AtomBecomes (before v f) a x × AtomBecomes (before v f) b x)
 unified_back v (atom.Concept p s) (atom.Concept q t) f z (ep, u, ez) = (m.0, λ x h. go x (subst (λ (c : QAtom). AtomBecomes v c x) ez h))
   where
     m : IsSubst f × Meet (f s) (f t)
     m = unifier_meets s t f u
 
-    go : (x : Atom) → AtomBecomes v (atom.Concept p (merged (f s) (f t))) x → AtomBecomes (before v f) (atom.Concept p s) x × AtomBecomes (before v f) (atom.Concept q t) x
+    go : (x : Atom) → AtomBecomes v (atom.Concept p (merged (f s) (f t))) x → AtomBecomes (before v f) (atom.Concept p s) x
+        × AtomBecomes (before v f) (atom.Concept q t) x
     go x (n, h, e) = let w = merged_back v (f s) (f t) n m.1 h in
         ((n, reflects v f m.0 s n w.0, e), (n, reflects v f m.0 t n w.1, e ∙ ap (λ c. ConceptAtom c n) ep))
 unified_back v (atom.Link p s s') (atom.Link q t t') f z (ep, g, h, ug, uh, ef, ez) =
@@ -137,11 +141,14 @@ unified_back v (atom.Link p s s') (atom.Link q t t') f z (ep, g, h, ug, uh, ef, 
     second : Meet (f s') (f t')
     second = subst (λ (k : Term → Term). Meet (k s') (k t')) (sym ef) mh.1
 
-    go : (x : Atom) → AtomBecomes v (atom.Link p (merged (f s) (f t)) (merged (f s') (f t'))) x → AtomBecomes (before v f) (atom.Link p s s') x × AtomBecomes (before v f) (atom.Link q t t') x
+    go : (x : Atom) → AtomBecomes v (atom.Link p (merged (f s) (f t)) (merged (f s') (f t'))) x → AtomBecomes (before v f) (atom.Link p s s') x
+        × AtomBecomes (before v f) (atom.Link q t t') x
     go x (m, n, h, k, e) =
         let w = merged_back v (f s) (f t) m first h in
-        let w' = merged_back v (f s') (f t') n second k in
-        ((m, n, reflects v f sf s m w.0, reflects v f sf s' n w'.0, e), (m, n, reflects v f sf t m w.1, reflects v f sf t' n w'.1, e ∙ ap (λ c. RoleAtom c m n) ep))
+        let w' = merged_back v (f s') (f t') n second k in (
+          (m, n, reflects v f sf s m w.0, reflects v f sf s' n w'.0, e),
+          (m, n, reflects v f sf t m w.1, reflects v f sf t' n w'.1, e ∙ ap (λ c. RoleAtom c m n) ep),
+        )
 unified_back v (atom.Concept p s) (atom.Link q t t') f z u = absurd u
 unified_back v (atom.Link p s s') (atom.Concept q t) f z u = absurd u
 

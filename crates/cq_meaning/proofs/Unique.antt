@@ -1,5 +1,6 @@
 -- A query has one normal form, in whatever order the steps are taken.
-use Rattle.std.proofs.Common.{◌≡◌, ℕ, zero, suc, ◌+◌, ◌<◌, ◌≤◌, ◌⊎◌, ◌↔◌, inl, inr, List, [], ◌∷◌, map, Contains, Some, slice_get, refl, sym, subst, ap, ◌∙◌, arith, Bool, true, false, cond, ◌==◌, eqb-true, eq-eqb, ne_eqb, eq-zero-or-pos}
+use Rattle.std.proofs.Common.{◌≡◌, ℕ, zero, suc, ◌+◌, ◌<◌, ◌≤◌, ◌⊎◌, ◌↔◌, inl, inr, List, [], ◌∷◌, map, Contains, Some, slice_get, refl, sym, subst, ap, ◌∙◌}
+use Rattle.std.proofs.Common.{arith, Bool, true, false, cond, ◌==◌, eqb-true, eq-eqb, ne_eqb, eq-zero-or-pos}
 use Rattle.std.specs.declared.cmp.Ordering.TheVariants.{Less}
 use Rattle.std.proofs.lemmas.Bool.{cases_eq}
 use Rattle.cq_terms.specs.declared.query.Term.{Term}
@@ -7,7 +8,8 @@ use Rattle.cq_terms.specs.declared.query.Term.TheVariants.{Var, Ind, Any}
 use Rattle.cq_terms.specs.declared.query.QAtom.{QAtom}
 use Rattle.cq_terms.specs.declared.query.QAtom.TheVariants as atom
 use Rattle.cq_terms.specs.Query.{Query}
-use Rattle.cq_meaning.specs.NormalForm.{map_atom, substitute, times_in_term, times_in_atom, times_in_head, times_in_body, is_unbound, without, Simplifies, SimplifiesIn, atom_cmp, IsNormalForm}
+use Rattle.cq_meaning.specs.NormalForm.{map_atom, substitute, times_in_term, times_in_atom, times_in_head, times_in_body, is_unbound, without, Simplifies}
+use Rattle.cq_meaning.specs.NormalForm.{SimplifiesIn, atom_cmp, IsNormalForm}
 use Rattle.cq_meaning.proofs.Members.{Contains-head, Contains-later, Contains-cases, Contains-nil, Contains-slice_get}
 use Rattle.cq_meaning.proofs.Places.{some_inj, slice_get-without}
 use Rattle.cq_meaning.proofs.Extension.{and_both, and_true}
@@ -79,7 +81,8 @@ module _ (g : Term → Term) (f : Forgets g) where
 
   atom_fixed : (a : QAtom) → ((l : ℕ) → 0 < times_in_atom l a → g (Var l) ≡ Var l) → map_atom g a ≡ a
   atom_fixed (atom.Concept p t) h = ap (atom.Concept p) (term_fixed t h)
-  atom_fixed (atom.Link p s t) h = ap (λ (u : Term). atom.Link p u (g t)) (term_fixed s (λ l k. h l (omega arith))) ∙ ap (atom.Link p s) (term_fixed t (λ l k. h l (omega arith)))
+  atom_fixed (atom.Link p s t) h = ap (λ (u : Term). atom.Link p u (g t)) (term_fixed s (λ l k. h l (omega arith)))
+      ∙ ap (atom.Link p s) (term_fixed t (λ l k. h l (omega arith)))
 
 -- ---- a variable that stands once
 
@@ -105,7 +108,11 @@ the_only l (x ∷ xs) e = go (eq-zero-or-pos (times_in_atom l x)) (λ d. the_onl
     go (inl z) again = let w = again (omega arith) in (w.0, record { there = Contains-later x xs w.0 w.1.there; once = w.1.once; alone = alone w.0 w.1 })
       where
         alone : (a : QAtom) → IsOnly l xs a → (c : QAtom) → Contains (x ∷ xs) c → 0 < times_in_atom l c → a ≡ c
-        alone a o c m p = elim (Contains-cases x xs c m) [ inl d ↦ let k : times_in_atom l x ≡ times_in_atom l c = ap (times_in_atom l) d in absurd (omega arith) | inr d ↦ o.alone c d p ]
+        alone a o c m p = elim (Contains-cases x xs c m) [
+          | inl d ↦ let k : times_in_atom l x ≡ times_in_atom l c = ap (times_in_atom l) d in
+              absurd (omega arith)
+          | inr d ↦ o.alone c d p
+        ]
     go (inr p) again = (x, record { there = Contains-head x xs; once = omega arith; alone = alone })
       where
         alone : (c : QAtom) → Contains (x ∷ xs) c → 0 < times_in_atom l c → x ≡ c
@@ -123,7 +130,8 @@ only_once : (l : ℕ) (ys : List QAtom) → AllApart ys → (a : QAtom) → IsOn
 only_once l [] h a o = absurd (Contains-nil a o.there)
 only_once l (y ∷ ys) h a o = go (Contains-cases y ys a o.there) (eq-zero-or-pos (times_in_atom l y)) (λ w. only_once l ys h.1 a w)
   where
-    go : (y ≡ a) ⊎ Contains ys a → (times_in_atom l y ≡ 0) ⊎ (0 < times_in_atom l y) → (IsOnly l ys a → times_in_body l ys ≡ 1) → times_in_atom l y + times_in_body l ys ≡ 1
+    go : (y ≡ a) ⊎ Contains ys a → (times_in_atom l y ≡ 0) ⊎ (0 < times_in_atom l y) → (IsOnly l ys a → times_in_body l ys ≡ 1)
+        → times_in_atom l y + times_in_body l ys ≡ 1
     go (inl e) w again =
         let k : times_in_atom l y ≡ 1 = ap (times_in_atom l) e ∙ o.once in
         let z = none_there l ys (λ c m p. apart_not y ys h.0 c m (e ∙ o.alone c (Contains-later y ys c m) p)) in omega arith
@@ -131,7 +139,8 @@ only_once l (y ∷ ys) h a o = go (Contains-cases y ys a o.there) (eq-zero-or-po
     go (inr d) (inl z) again = let k = again (record { there = d; once = o.once; alone = λ c m. o.alone c (Contains-later y ys c m) }) in omega arith
 
 -- an unbound variable that stays, is unbound in an image with no atom twice
-still_unbound : (g : Term → Term) → Forgets g → (b r : Query) → b.head ≡ r.head → IsImage g b.body r.body → AllApart r.body → (l : ℕ) → g (Var l) ≡ Var l → is_unbound b l ≡ true → is_unbound r l ≡ true
+still_unbound : (g : Term → Term) → Forgets g → (b r : Query) → b.head ≡ r.head → IsImage g b.body r.body → AllApart r.body → (l : ℕ) → g (Var l) ≡ Var l
+    → is_unbound b l ≡ true → is_unbound r l ≡ true
 still_unbound g f b r e image apart l fixed t =
     let w = and_both (times_in_head l b.head == 0) (times_in_body l b.body == 1) t in
     let one = the_only l b.body (eqb-true (times_in_body l b.body) 1 w.1) in
@@ -144,7 +153,8 @@ still_unbound g f b r e image apart l fixed t =
       there = (image (map_atom g a)).1 (a, o.there, refl);
       once = atom_kept g f l fixed a ∙ o.once;
       alone = λ c m p. let d = (image c).0 m in
-          ap (map_atom g) (o.alone d.0 d.1 (let k = atom_kept g f l fixed d.0 in let k' : times_in_atom l (map_atom g d.0) ≡ times_in_atom l c = ap (times_in_atom l) d.2 in omega arith)) ∙ d.2;
+          ap (map_atom g) (o.alone d.0 d.1 (let k = atom_kept g f l fixed d.0 in let k' : times_in_atom l (map_atom g d.0) ≡ times_in_atom l c =
+          ap (times_in_atom l) d.2 in omega arith)) ∙ d.2;
     }
 
 -- ---- one step
@@ -152,7 +162,8 @@ still_unbound g f b r e image apart l fixed t =
 left_out : (xs : List QAtom) (j : ℕ) (c : QAtom) → Contains (without xs j) c → Contains xs c
 left_out [] j c m = m
 left_out (x ∷ xs) zero c m = Contains-later x xs c m
-left_out (x ∷ xs) (suc j) c m = elim (Contains-cases x (without xs j) c m) [ inl e ↦ subst (Contains (x ∷ xs)) e (Contains-head x xs) | inr d ↦ Contains-later x xs c (left_out xs j c d) ]
+left_out (x ∷ xs) (suc j) c m = elim (Contains-cases x (without xs j) c m)
+    [ inl e ↦ subst (Contains (x ∷ xs)) e (Contains-head x xs) | inr d ↦ Contains-later x xs c (left_out xs j c d) ]
 
 left_in : (xs : List QAtom) (j : ℕ) (a c : QAtom) → slice_get xs j ≡ Some a → Contains xs c → (a ≡ c) ⊎ Contains (without xs j) c
 left_in [] j a c e m = inr m
@@ -164,8 +175,13 @@ left_in (x ∷ xs) (suc j) a c e m = go (Contains-cases x xs c m) (λ d. left_in
     go (inr d) again = elim (again d) [ inl k ↦ inl k | inr k ↦ inr (Contains-later x (without xs j) c k) ]
 
 -- an atom that stands at an earlier place too is taken out
-same_atoms : (xs : List QAtom) (i j : ℕ) (a : QAtom) → i < j → slice_get xs i ≡ Some a → slice_get xs j ≡ Some a → (c : QAtom) → Contains (without xs j) c ↔ Contains xs c
-same_atoms xs i j a ij e d c = (left_out xs j c, λ m. elim (left_in xs j a c d m) [ inl k ↦ subst (Contains (without xs j)) k (Contains-slice_get (without xs j) i a (slice_get-without xs i j ij ∙ e)) | inr k ↦ k ])
+same_atoms : (xs : List QAtom) (i j : ℕ) (a : QAtom) → i < j → slice_get xs i ≡ Some a → slice_get xs j ≡ Some a → (c : QAtom) → Contains (without xs j) c
+    ↔ Contains xs c
+same_atoms xs i j a ij e d c = (
+  left_out xs j c,
+  λ m. elim (left_in xs j a c d m)
+      [ inl k ↦ subst (Contains (without xs j)) k (Contains-slice_get (without xs j) i a (slice_get-without xs i j ij ∙ e)) | inr k ↦ k ],
+)
 
 Contains-map : (f : QAtom → QAtom) (xs : List QAtom) (b : QAtom) → Contains (map f xs) b ↔ ((c : QAtom) × Contains xs c × (f c ≡ b))
 Contains-map f [] b = ((λ m. absurd (Contains-nil b m)), (λ (c, m, e). absurd (Contains-nil c m)))
@@ -173,8 +189,16 @@ Contains-map f (x ∷ xs) b = go (Contains-map f xs b)
   where
     go : Contains (map f xs) b ↔ ((c : QAtom) × Contains xs c × (f c ≡ b)) → Contains (f x ∷ map f xs) b ↔ ((c : QAtom) × Contains (x ∷ xs) c × (f c ≡ b))
     go w = (
-      (λ m. elim (Contains-cases (f x) (map f xs) b m) [ inl e ↦ (x, Contains-head x xs, e) | inr d ↦ let u = w.0 d in (u.0, Contains-later x xs u.0 u.1, u.2) ]),
-      (λ (c, m, e). elim (Contains-cases x xs c m) [ inl d ↦ subst (Contains (f x ∷ map f xs)) (ap f d ∙ e) (Contains-head (f x) (map f xs)) | inr d ↦ Contains-later (f x) (map f xs) b (w.1 (c, d, e)) ]),
+      (λ m. elim (Contains-cases (f x) (map f xs) b m) [
+        | inl e ↦ (x, Contains-head x xs, e)
+        | inr d ↦ let u = w.0 d in
+            (u.0, Contains-later x xs u.0 u.1, u.2)
+      ]),
+      (λ (c, m, e). elim (Contains-cases x xs c m) [
+        | inl d ↦ subst (Contains (f x ∷ map f xs)) (ap f d ∙ e) (Contains-head (f x) (map f xs))
+        | inr d ↦
+            Contains-later (f x) (map f xs) b (w.1 (c, d, e))
+      ]),
     )
 
 image_like : (g : Term → Term) (xs xs' ys : List QAtom) → ((c : QAtom) → Contains xs c ↔ Contains xs' c) → IsImage g xs ys → IsImage g xs' ys
@@ -192,8 +216,14 @@ image_before f g xs ys h a = (
 
 image_after : (f g : Term → Term) → ((t : Term) → g (f t) ≡ g t) → (xs ys : List QAtom) → IsImage g xs ys → IsImage g (map (map_atom f) xs) ys
 image_after f g k xs ys h a = (
-  (λ m. let w = (h a).0 m in (map_atom f w.0, (Contains-map (map_atom f) xs (map_atom f w.0)).1 (w.0, w.1, refl), map_twice g f w.0 ∙ (map_same (λ t. g (f t)) g k w.0 ∙ w.2))),
-  (λ (c, m, e). let u = (Contains-map (map_atom f) xs c).0 m in (h a).1 (u.0, u.1, sym (map_same (λ t. g (f t)) g k u.0) ∙ (sym (map_twice g f u.0) ∙ (ap (map_atom g) u.2 ∙ e)))),
+  (λ m. let w = (h a).0 m in (
+    map_atom f w.0,
+    (Contains-map (map_atom f) xs (map_atom f w.0)).1 (w.0, w.1, refl),
+    map_twice g f w.0
+        ∙ (map_same (λ t. g (f t)) g k w.0 ∙ w.2),
+  )),
+  (λ (c, m, e). let u = (Contains-map (map_atom f) xs c).0 m in
+      (h a).1 (u.0, u.1, sym (map_same (λ t. g (f t)) g k u.0) ∙ (sym (map_twice g f u.0) ∙ (ap (map_atom g) u.2 ∙ e)))),
 )
 
 forgets_first : (l : ℕ) (g : Term → Term) → Forgets g → Forgets (λ t. g (substitute l Any t))
@@ -216,7 +246,8 @@ reached_image zero q r e = (
 )
 reached_image (suc n) q r (p, step, h) = go step (reached_image n p r h)
   where
-    go : Simplifies q p → (p.head ≡ r.head) × (g : Term → Term) × Forgets g × IsImage g p.body r.body → (q.head ≡ r.head) × (g : Term → Term) × Forgets g × IsImage g q.body r.body
+    go : Simplifies q p → (p.head ≡ r.head) × (g : Term → Term) × Forgets g × IsImage g p.body r.body → (q.head ≡ r.head) × (g : Term → Term) × Forgets g
+        × IsImage g q.body r.body
     go (inl (i, j, a, ij, e, d, k)) (head, g, f, image) = (
       sym (ap (λ (p : Query). p.head) k) ∙ head,
       g,
@@ -233,7 +264,8 @@ reached_image (suc n) q r (p, step, h) = go step (reached_image n p r h)
 -- ---- two ways to the end
 
 -- what further steps reach still has the finished query as its image
-walk : (g : Term → Term) → Forgets g → (r : Query) → ((s : Query) → ¬ Simplifies r s) → (n : ℕ) (b s : Query) → SimplifiesIn n b s → b.head ≡ r.head → IsImage g b.body r.body → IsImage g s.body r.body
+walk : (g : Term → Term) → Forgets g → (r : Query) → ((s : Query) → ¬ Simplifies r s) → (n : ℕ) (b s : Query) → SimplifiesIn n b s → b.head ≡ r.head
+    → IsImage g b.body r.body → IsImage g s.body r.body
 walk g f r stop zero b s e head image = subst (λ (p : Query). IsImage g p.body r.body) e image
 walk g f r stop (suc n) b s (p, step, h) head image = walk g f r stop n p s h (go step).0 (go step).1
   where
@@ -241,7 +273,8 @@ walk g f r stop (suc n) b s (p, step, h) head image = walk g f r stop n p s h (g
     apart = apart_by_place r.body (λ i j a ij e d. stop (record { head = r.head; body = without r.body j }) (inl (i, j, a, ij, e, d, refl)))
 
     gone : (l : ℕ) → is_unbound b l ≡ true → (g (Var l) ≡ Var l) ⊎ (g (Var l) ≡ Any) → g (Var l) ≡ Any
-    gone l t (inl e) = absurd (stop (record { head = r.head; body = map (map_atom (substitute l Any)) r.body }) (inr (l, still_unbound g f b r head image apart l e t, refl)))
+    gone l t (inl e) = absurd (stop (record { head = r.head; body = map (map_atom (substitute l Any)) r.body })
+        (inr (l, still_unbound g f b r head image apart l e t, refl)))
     gone l t (inr e) = e
 
     ignores : (l : ℕ) → g (Var l) ≡ Any → (t : Term) → g (substitute l Any t) ≡ g t
@@ -255,7 +288,8 @@ walk g f r stop (suc n) b s (p, step, h) head image = walk g f r stop n p s h (g
     go : Simplifies b p → (p.head ≡ r.head) × IsImage g p.body r.body
     go (inl (i, j, a, ij, e, d, k)) = (
       ap (λ (p : Query). p.head) k ∙ head,
-      subst (λ (p : Query). IsImage g p.body r.body) (sym k) (image_like g b.body (without b.body j) r.body (λ c. let w = same_atoms b.body i j a ij e d c in (w.1, w.0)) image),
+      subst (λ (p : Query). IsImage g p.body r.body) (sym k) (image_like g b.body (without b.body j) r.body
+          (λ c. let w = same_atoms b.body i j a ij e d c in (w.1, w.0)) image),
     )
     go (inr (l, t, k)) = (
       ap (λ (p : Query). p.head) k ∙ head,
@@ -263,7 +297,8 @@ walk g f r stop (suc n) b s (p, step, h) head image = walk g f r stop n p s h (g
     )
 
 -- two lists that are images of each other have the same atoms
-each_in_other : (g h : Term → Term) → Forgets g → Forgets h → (xs ys : List QAtom) → IsImage g xs ys → IsImage h ys xs → (a : QAtom) → Contains xs a → Contains ys a
+each_in_other : (g h : Term → Term) → Forgets g → Forgets h → (xs ys : List QAtom) → IsImage g xs ys → IsImage h ys xs → (a : QAtom) → Contains xs a
+    → Contains ys a
 each_in_other g h f k xs ys there back a m = subst (Contains ys) (atom_fixed g f a (λ l p. fixed l p (f.var l))) ((there (map_atom g a)).1 (a, m, refl))
   where
     fixed : (l : ℕ) → 0 < times_in_atom l a → (g (Var l) ≡ Var l) ⊎ (g (Var l) ≡ Any) → g (Var l) ≡ Var l

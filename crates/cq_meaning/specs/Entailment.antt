@@ -1,5 +1,5 @@
 -- Matches of a query, and what a set of facts entails for it.
-use Rattle.std.specs.Prelude.{◌≡◌, ◌↔◌, ℕ, ◌<◌, List, AllPairs, Contains, slice_get, Some}
+use Rattle.std.specs.Prelude.{◌≡◌, ◌↔◌, ℕ, List, Contains, slice_get, Some}
 use Rattle.std.specs.List.{AllZip, AllByRecursion}
 use Rattle.cq_terms.specs.declared.query.Term.{Term}
 use Rattle.cq_terms.specs.declared.query.Term.TheVariants.{Var, Ind, Any}

@@ -1,5 +1,6 @@
 -- PerfectRef (Calvanese and others 2007): the moves on queries, what they reach, and the queries of disjointnesses.
-use Rattle.std.specs.Prelude.{◌≡◌, ℕ, zero, suc, ◌<◌, ◌⊎◌, ◌↔◌, List, [], ◌∷◌, Contains, Option, Some, None, slice_get, slice_set, map, if◌then◌else◌, ◌==◌, nat_lt}
+use Rattle.std.specs.Prelude.{◌≡◌, ℕ, zero, suc, ◌<◌, ◌⊎◌, ◌↔◌, List, [], ◌∷◌, Contains, Option, Some, None, slice_get, slice_set, map, if◌then◌else◌, ◌==◌}
+use Rattle.std.specs.Prelude.{nat_lt}
 use Rattle.cq_terms.specs.declared.axioms.Role.{Role}
 use Rattle.cq_terms.specs.declared.axioms.Basic.{Basic}
 use Rattle.cq_terms.specs.declared.axioms.Basic.TheVariants as basic

@@ -14,7 +14,8 @@ HasCause kb q tuple S = (numbers : List ℕ) × IsAscending numbers × IsCause k
 
 -- a consistent part of a table entails a tuple exactly where it has a cause of it
 abbrev pub EntailedByCauses : Type 0
-EntailedByCauses = (kb : Knowledge) (S : ℕ → Bool) → AreConsistent kb (In S) → (q : Query) (tuple : List ℕ) → FactsEntail kb (In S) q tuple ↔ HasCause kb q tuple (In S)
+EntailedByCauses = (kb : Knowledge) (S : ℕ → Bool) → AreConsistent kb (In S) → (q : Query) (tuple : List ℕ) → FactsEntail kb (In S) q tuple
+    ↔ HasCause kb q tuple (In S)
 
 -- the three verdicts by the causes that lie in some chosen repair, in each one, and in what all have
 pub record VerdictsByCauses (kb : Knowledge) (mode : Repairs) (q : Query) (tuple : List ℕ) : Type 0 where

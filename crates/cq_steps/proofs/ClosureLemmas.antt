@@ -65,7 +65,8 @@ derived-in-closure axioms q members d a m (k, inside, is) =
     reached axioms q members d a (suc k) k (omega arith) m (slice_get-get_or members k m inside ∙ ap Some is)
 
 -- moves from a member lead to members of a closed list
-stays_inside : (axioms : List Axiom) (members : List Member) → IsClosed axioms members → (n : ℕ) (p r : Query) → IsQueryOf members p → Reaches axioms n p r → IsQueryOf members r
+stays_inside : (axioms : List Axiom) (members : List Member) → IsClosed axioms members → (n : ℕ) (p r : Query) → IsQueryOf members p → Reaches axioms n p r
+    → IsQueryOf members r
 stays_inside axioms members closed zero p r some e = subst (IsQueryOf members) e some
 stays_inside axioms members closed (suc n) p r (k, m, inside, at, is) (x, first, more) =
     let by = move_of_successor axioms m.query x (subst (λ (y : Query). IsSuccessor axioms y x) (sym is) first) in
@@ -79,7 +80,8 @@ first_inside axioms q members a =
     (0, m, inside, at, a.first.2)
 
 -- a list that closes the query is its closure
-pub closing-is-closure : (axioms : List Axiom) (q : Query) (members : List Member) → IsDerivation members → Closes axioms q members → IsClosure axioms q (queries_of members)
+pub closing-is-closure : (axioms : List Axiom) (q : Query) (members : List Member) → IsDerivation members → Closes axioms q members
+    → IsClosure axioms q (queries_of members)
 closing-is-closure axioms q members d c = λ r. (to r, from r)
   where
     to : (r : Query) → Contains (queries_of members) r → IsInClosure axioms q r

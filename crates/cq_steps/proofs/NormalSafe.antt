@@ -1,5 +1,6 @@
 -- The normal form of a safe query is safe.
-use Rattle.std.proofs.Common.{◌≡◌, ℕ, ◌<◌, zero, suc, inl, inr, Bool, true, false, not, ◌&&◌, ◌==◌, List, [], ◌∷◌, length, get_or, map, refl, ap, sym, ◌∙◌, arith, cond, subst}
+use Rattle.std.proofs.Common.{◌≡◌, ℕ, ◌<◌, zero, suc, inl, inr, Bool, true, false, not, ◌&&◌, ◌==◌, List, [], ◌∷◌, length, get_or, map, refl, ap, sym, ◌∙◌}
+use Rattle.std.proofs.Common.{arith, cond, subst}
 use Rattle.std.specs.List.{Any, filter}
 use Rattle.std.specs.Ordering.{is_le}
 use Rattle.std.proofs.lemmas.Bool.Decides.{nat_tests}
@@ -9,7 +10,8 @@ use Rattle.cq_terms.specs.declared.query.Term.TheVariants as term
 use Rattle.cq_terms.specs.declared.query.QAtom.{QAtom}
 use Rattle.cq_terms.specs.declared.query.QAtom.TheVariants as atom
 use Rattle.cq_terms.specs.Query.{Query, StandsIn, IsMeant, IsSafe}
-use Rattle.cq_meaning.specs.NormalForm.{same_atom, atom_cmp, distinct_atoms, map_atom, times_in_term, times_in_head, times_in_body, unbound_to_any, with_unbound_any, simplified, insert, sorted, normal}
+use Rattle.cq_meaning.specs.NormalForm.{same_atom, atom_cmp, distinct_atoms, map_atom, times_in_term, times_in_head, times_in_body, unbound_to_any}
+use Rattle.cq_meaning.specs.NormalForm.{with_unbound_any, simplified, insert, sorted, normal}
 use Rattle.cq_steps.specs.Ordered.{round_of}
 use Rattle.cq_steps.proofs.Same.{same_atom-equal}
 use Rattle.cq_steps.proofs.Anywhere.{Any-head, Any-later, Any-cases, Any-nil, Any-map, Any-length, Any-of-length}
@@ -44,7 +46,8 @@ Any-distinct P (x ∷ xs) some =
       | inr later ↦ kept P x (distinct_atoms xs) (Any-distinct P xs later)
     ]
 
-inserted : (P : QAtom → Type 0) (a b : QAtom) (xs rest : List QAtom) (t : Bool) → (Any P (a ∷ xs) → Any P rest) → Any P (a ∷ b ∷ xs) → Any P (cond t (a ∷ b ∷ xs) (b ∷ rest))
+inserted : (P : QAtom → Type 0) (a b : QAtom) (xs rest : List QAtom) (t : Bool) → (Any P (a ∷ xs) → Any P rest) → Any P (a ∷ b ∷ xs)
+    → Any P (cond t (a ∷ b ∷ xs) (b ∷ rest))
 inserted P a b xs rest true h some = some
 inserted P a b xs rest false h some =
     elim (Any-cases P a (b ∷ xs) some) [
@@ -60,7 +63,11 @@ Any-insert P a (b ∷ xs) some = inserted P a b xs (insert a xs) (is_le (atom_cm
 pub Any-sorted : (P : QAtom → Type 0) (xs : List QAtom) → Any P xs → Any P (sorted xs)
 Any-sorted P [] some = some
 Any-sorted P (x ∷ xs) some =
-    Any-insert P x (sorted xs) (elim (Any-cases P x xs some) [ inl p ↦ Any-head P x (sorted xs) p | inr later ↦ Any-later P x (sorted xs) (Any-sorted P xs later) ])
+    Any-insert P x (sorted xs) (elim (Any-cases P x xs some) [
+      | inl p ↦ Any-head P x (sorted xs) p
+      | inr later ↦
+          Any-later P x (sorted xs) (Any-sorted P xs later)
+    ])
 
 counts : (l : ℕ) → times_in_term l (Var l) ≡ 1
 counts l = grind (arith, nat_tests)
@@ -108,7 +115,8 @@ unbound_is_safe : (q : Query) → IsSafe q → IsSafe (with_unbound_any q)
 unbound_is_safe q safe =
     let f = map_atom (unbound_to_any q) in
     IsSafe-from q (map f q.body) (λ l h. Any-map (StandsIn l) (StandsIn l) f (StandsIn-map l (unbound_to_any q) (stays q l h)) q.body)
-    (Any-length (λ (x : QAtom). Unit {0}) (map f q.body) (Any-map (λ (x : QAtom). Unit {0}) (λ (x : QAtom). Unit {0}) f (λ x u. u) q.body (Any-of-length q.body safe.body))) safe
+    (Any-length (λ (x : QAtom). Unit {0}) (map f q.body) (Any-map (λ (x : QAtom). Unit {0}) (λ (x : QAtom). Unit {0}) f (λ x u. u) q.body
+    (Any-of-length q.body safe.body))) safe
 
 simplified_is_safe : (n : ℕ) (q : Query) → IsSafe q → IsSafe (simplified n q)
 simplified_is_safe zero q safe = safe

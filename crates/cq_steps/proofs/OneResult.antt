@@ -17,7 +17,8 @@ use Rattle.cq_steps.specs.declared.moves.Move.TheVariants as move
 use Rattle.cq_steps.specs.Moves.{IsMove}
 use Rattle.cq_steps.specs.Steps.{IsResultOf}
 
-same_ends : (p : ℕ) (inverse : Bool) (s t s2 t2 : Term) → cond inverse (atom.Link p t s) (atom.Link p s t) ≡ cond inverse (atom.Link p t2 s2) (atom.Link p s2 t2) → (s ≡ s2) × (t ≡ t2)
+same_ends : (p : ℕ) (inverse : Bool) (s t s2 t2 : Term) → cond inverse (atom.Link p t s) (atom.Link p s t)
+    ≡ cond inverse (atom.Link p t2 s2) (atom.Link p s2 t2) → (s ≡ s2) × (t ≡ t2)
 same_ends p true s t s2 t2 e = (cc, cc)
 same_ends p false s t s2 t2 e = (cc, cc)
 
@@ -82,10 +83,12 @@ IsMoveResult-axiom axioms q i n rule None at none =
 IsMoveResult-axiom axioms q i n rule (Some next) at (p, step, is) = (
   (rule, p, at, step, is),
   λ r (rule2, p2, at2, step2, is2).
-      is2 ∙ ap normal (one_axiom_step rule q i p2 p (subst (λ (a : Axiom). IsAxiomStepAt a q i p2) (some_same (slice_get axioms n) rule2 rule at2 at) step2) step) ∙ sym is,
+      is2 ∙ ap normal (one_axiom_step rule q i p2 p (subst (λ (a : Axiom). IsAxiomStepAt a q i p2) (some_same (slice_get axioms n) rule2 rule at2 at) step2)
+      step) ∙ sym is,
 )
 
-pub IsMoveResult-reduce : (axioms : List Axiom) (q : Query) (i j : ℕ) (next : Option Query) → IsResultOf (IsReduceStepAt q i j) next → IsMoveResult axioms q (move.Reduce i j) next
+pub IsMoveResult-reduce : (axioms : List Axiom) (q : Query) (i j : ℕ) (next : Option Query) → IsResultOf (IsReduceStepAt q i j) next
+    → IsMoveResult axioms q (move.Reduce i j) next
 IsMoveResult-reduce axioms q i j None none = λ r (p, step, is). none p step
 IsMoveResult-reduce axioms q i j (Some next) (p, step, is) =
     ((p, step, is), λ r (p2, step2, is2). is2 ∙ ap normal (one_reduce_step q i j p2 p step2 step) ∙ sym is)

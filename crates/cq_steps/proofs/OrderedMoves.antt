@@ -96,7 +96,12 @@ reduce_inside q i j r (p, (x, y, f, z, order, at, at_j, u, made), is) = (order, 
 
 -- nothing comes before the first move
 pub none_before : (axioms : List Axiom) (q : Query) → AreSuccessorsBefore axioms q (move.Axiom 0 0) []
-none_before axioms q = record { ascending = λ i j d h lt. absurd (omega arith); sound = λ k d lt. absurd (omega arith); complete = λ m r h is. absurd (first m h) }
+none_before axioms q = record {
+  ascending = λ i j d h lt. absurd (omega arith);
+  sound = λ k d lt. absurd (omega arith);
+  complete =
+      λ m r h is. absurd (first m h);
+}
   where
     first : (m : Move) → IsBefore m (move.Axiom 0 0) → ⊥
     first (move.Axiom i n) (inl h) = omega arith
@@ -104,17 +109,23 @@ none_before axioms q = record { ascending = λ i j d h lt. absurd (omega arith);
     first (move.Reduce i j) h = h
 
 -- one axiom was tried on the atom
-pub axiom_tried : (axioms : List Axiom) (q : Query) (i n : ℕ) (rule : Axiom) (next : Option Query) (found : List (Move × Query)) → slice_get axioms n ≡ Some rule
-    → IsResultOf (IsAxiomStepAt rule q i) next → AreSuccessorsBefore axioms q (move.Axiom i n) found → AreSuccessorsBefore axioms q (move.Axiom i (n + 1)) (with_result found (move.Axiom i n) next)
-axiom_tried axioms q i n rule next found at result so = past axioms q (move.Axiom i n) (move.Axiom i (n + 1)) found next (axiom_follows i n) (IsMoveResult-axiom axioms q i n rule next at result) so
+pub axiom_tried : (axioms : List Axiom) (q : Query) (i n : ℕ) (rule : Axiom) (next : Option Query) (found : List (Move × Query))
+    → slice_get axioms n ≡ Some rule
+    → IsResultOf (IsAxiomStepAt rule q i) next → AreSuccessorsBefore axioms q (move.Axiom i n) found
+    → AreSuccessorsBefore axioms q (move.Axiom i (n + 1)) (with_result found (move.Axiom i n) next)
+axiom_tried axioms q i n rule next found at result so = past axioms q (move.Axiom i n) (move.Axiom i (n + 1)) found next (axiom_follows i n)
+    (IsMoveResult-axiom axioms q i n rule next at result) so
 
 -- one second atom was tried
 pub reduce_tried : (axioms : List Axiom) (q : Query) (i j : ℕ) (next : Option Query) (found : List (Move × Query))
-    → IsResultOf (IsReduceStepAt q i j) next → AreSuccessorsBefore axioms q (move.Reduce i j) found → AreSuccessorsBefore axioms q (move.Reduce i (j + 1)) (with_result found (move.Reduce i j) next)
-reduce_tried axioms q i j next found result so = past axioms q (move.Reduce i j) (move.Reduce i (j + 1)) found next (reduce_follows i j) (IsMoveResult-reduce axioms q i j next result) so
+    → IsResultOf (IsReduceStepAt q i j) next → AreSuccessorsBefore axioms q (move.Reduce i j) found
+    → AreSuccessorsBefore axioms q (move.Reduce i (j + 1)) (with_result found (move.Reduce i j) next)
+reduce_tried axioms q i j next found result so = past axioms q (move.Reduce i j) (move.Reduce i (j + 1)) found next (reduce_follows i j)
+    (IsMoveResult-reduce axioms q i j next result) so
 
 -- all axioms were tried on the atom
-pub atom_done : (axioms : List Axiom) (q : Query) (i n : ℕ) (found : List (Move × Query)) → length axioms ≤ n → AreSuccessorsBefore axioms q (move.Axiom i n) found → AreSuccessorsBefore axioms q (move.Axiom (i + 1) 0) found
+pub atom_done : (axioms : List Axiom) (q : Query) (i n : ℕ) (found : List (Move × Query)) → length axioms ≤ n
+    → AreSuccessorsBefore axioms q (move.Axiom i n) found → AreSuccessorsBefore axioms q (move.Axiom (i + 1) 0) found
 atom_done axioms q i n found h = further axioms q (move.Axiom i n) (move.Axiom (i + 1) 0) found keeps back
   where
     keeps : (k : Move) → IsBefore k (move.Axiom i n) → IsBefore k (move.Axiom (i + 1) 0)
@@ -132,7 +143,8 @@ atom_done axioms q i n found h = further axioms q (move.Axiom i n) (move.Axiom (
     back (move.Reduce j m) r l is = absurd l
 
 -- all atoms had their axiom steps
-pub atoms_done : (axioms : List Axiom) (q : Query) (i : ℕ) (found : List (Move × Query)) → length q.body ≤ i → AreSuccessorsBefore axioms q (move.Axiom i 0) found → AreSuccessorsBefore axioms q (move.Reduce 0 0) found
+pub atoms_done : (axioms : List Axiom) (q : Query) (i : ℕ) (found : List (Move × Query)) → length q.body ≤ i
+    → AreSuccessorsBefore axioms q (move.Axiom i 0) found → AreSuccessorsBefore axioms q (move.Reduce 0 0) found
 atoms_done axioms q i found h = further axioms q (move.Axiom i 0) (move.Reduce 0 0) found keeps back
   where
     keeps : (k : Move) → IsBefore k (move.Axiom i 0) → IsBefore k (move.Reduce 0 0)
@@ -145,7 +157,8 @@ atoms_done axioms q i found h = further axioms q (move.Axiom i 0) (move.Reduce 0
     back (move.Reduce j m) r (inr l) is = absurd (omega (arith, l.1))
 
 -- no atom comes behind itself
-pub first_done : (axioms : List Axiom) (q : Query) (i : ℕ) (found : List (Move × Query)) → AreSuccessorsBefore axioms q (move.Reduce i 0) found → AreSuccessorsBefore axioms q (move.Reduce i (i + 1)) found
+pub first_done : (axioms : List Axiom) (q : Query) (i : ℕ) (found : List (Move × Query)) → AreSuccessorsBefore axioms q (move.Reduce i 0) found
+    → AreSuccessorsBefore axioms q (move.Reduce i (i + 1)) found
 first_done axioms q i found = further axioms q (move.Reduce i 0) (move.Reduce i (i + 1)) found keeps back
   where
     keeps : (k : Move) → IsBefore k (move.Reduce i 0) → IsBefore k (move.Reduce i (i + 1))
@@ -159,7 +172,8 @@ first_done axioms q i found = further axioms q (move.Reduce i 0) (move.Reduce i 
     back (move.Reduce j m) r (inr l) is = let inside = reduce_inside q j m r is in absurd (omega (arith, l.0, l.1, inside.0))
 
 -- all second atoms were tried
-pub row_done : (axioms : List Axiom) (q : Query) (i j : ℕ) (found : List (Move × Query)) → length q.body ≤ j → AreSuccessorsBefore axioms q (move.Reduce i j) found → AreSuccessorsBefore axioms q (move.Reduce (i + 1) 0) found
+pub row_done : (axioms : List Axiom) (q : Query) (i j : ℕ) (found : List (Move × Query)) → length q.body ≤ j
+    → AreSuccessorsBefore axioms q (move.Reduce i j) found → AreSuccessorsBefore axioms q (move.Reduce (i + 1) 0) found
 row_done axioms q i j found h = further axioms q (move.Reduce i j) (move.Reduce (i + 1) 0) found keeps back
   where
     keeps : (k : Move) → IsBefore k (move.Reduce i j) → IsBefore k (move.Reduce (i + 1) 0)
@@ -177,7 +191,8 @@ row_done axioms q i j found h = further axioms q (move.Reduce i j) (move.Reduce 
     back (move.Reduce k m) r (inr l) is = absurd (omega (arith, l.1))
 
 -- all first atoms were tried
-pub all_done : (axioms : List Axiom) (q : Query) (i : ℕ) (found : List (Move × Query)) → length q.body ≤ i → AreSuccessorsBefore axioms q (move.Reduce i 0) found → AreSuccessors axioms q found
+pub all_done : (axioms : List Axiom) (q : Query) (i : ℕ) (found : List (Move × Query)) → length q.body ≤ i
+    → AreSuccessorsBefore axioms q (move.Reduce i 0) found → AreSuccessors axioms q found
 all_done axioms q i found h so = record {
   ascending = so.ascending;
   sound = λ k d lt. (so.sound k d lt).0;

@@ -1,5 +1,6 @@
 -- The reduce step keeps safe queries safe.
-use Rattle.std.proofs.Common.{◌≡◌, ◌≢◌, ℕ, ◌<◌, ◌==◌, ◌⊎◌, inl, inr, Bool, true, false, cond, nat_lt, Some, None, List, length, get_or, set, map, refl, ap, sym, ◌∙◌, arith, subst}
+use Rattle.std.proofs.Common.{◌≡◌, ◌≢◌, ℕ, ◌<◌, ◌==◌, ◌⊎◌, inl, inr, Bool, true, false, cond, nat_lt, Some, None, List, length, get_or, set, map, refl, ap}
+use Rattle.std.proofs.Common.{sym, ◌∙◌, arith, subst}
 use Rattle.std.specs.List.{Any}
 use Rattle.std.proofs.lemmas.List.{length-set, length-map, get_or-map}
 use Rattle.std.proofs.lemmas.Bool.Decides.{nat_tests}
@@ -65,7 +66,8 @@ unifier-plain (Var i) term.Any g e = subst IsPlain (only (λ u. u) g e) IsPlain-
 unifier-plain (Ind c) term.Any g e = subst IsPlain (only (λ u. u) g e) IsPlain-none
 unifier-plain (Var i) (Var j) g e =
     subst IsPlain (only (cond (nat_lt i j) (substitute j (Var i)) (substitute i (Var j))) g e)
-    (either (nat_lt i j) (substitute j (Var i)) (substitute i (Var j)) (IsPlain-substitute j (Var i) (variable_is_known i)) (IsPlain-substitute i (Var j) (variable_is_known j)))
+    (either (nat_lt i j) (substitute j (Var i)) (substitute i (Var j)) (IsPlain-substitute j (Var i) (variable_is_known i))
+    (IsPlain-substitute i (Var j) (variable_is_known j)))
 unifier-plain (Var i) (Ind c) g e = subst IsPlain (only (substitute i (Ind c)) g e) (IsPlain-substitute i (Ind c) (individual_is_known c))
 unifier-plain (Ind c) (Var j) g e = subst IsPlain (only (substitute j (Ind c)) g e) (IsPlain-substitute j (Ind c) (individual_is_known c))
 unifier-plain (Ind c) (Ind d) g e = subst IsPlain ((equal_only (c == d) (λ u. u) g e).1) IsPlain-none
@@ -93,7 +95,8 @@ unifier-one term.Any t g e = inr (inl (IsPlain.any (unifier-plain term.Any t g e
 unifier-one (Var i) term.Any g e = inr (inr (IsPlain.any (unifier-plain (Var i) term.Any g e)))
 unifier-one (Ind c) term.Any g e = inr (inr (IsPlain.any (unifier-plain (Ind c) term.Any g e)))
 unifier-one (Var i) (Var j) g e =
-    inl (subst (λ (f : Term → Term). f (Var i) ≡ f (Var j)) (only (cond (nat_lt i j) (substitute j (Var i)) (substitute i (Var j))) g e) (one_of (nat_lt i j) i j))
+    inl (subst (λ (f : Term → Term). f (Var i) ≡ f (Var j)) (only (cond (nat_lt i j) (substitute j (Var i)) (substitute i (Var j))) g e)
+    (one_of (nat_lt i j) i j))
 unifier-one (Var i) (Ind c) g e =
     inl (subst (λ (f : Term → Term). f (Var i) ≡ f (Ind c)) (only (substitute i (Ind c)) g e) (put i (Ind c)))
 unifier-one (Ind c) (Var j) g e =
@@ -147,8 +150,10 @@ Unifies-from (atom.Concept a s) (atom.Concept b t) f z (same, e, is) =
 Unifies-from (atom.Concept a s) (atom.Link q t t2) f z u = absurd u
 Unifies-from (atom.Link p s s2) (atom.Concept b t) f z u = absurd u
 Unifies-from (atom.Link p s s2) (atom.Link q t t2) f z (same, g, h, e1, e2, is_f, is) =
-    let base = unified_links p s s2 t t2 g h (unifier-plain s t g e1) (unifier-plain (g s2) (g t2) h e2) (unifier-one s t g e1) (unifier-one (g s2) (g t2) h e2) in
-    let with_f = subst (λ (k : Term → Term). Unifies (atom.Link p s s2) (atom.Link p t t2) k (atom.Link p (merged (k s) (k t)) (merged (k s2) (k t2)))) (sym is_f) base in
+    let base = unified_links p s s2 t t2 g h (unifier-plain s t g e1) (unifier-plain (g s2) (g t2) h e2) (unifier-one s t g e1)
+    (unifier-one (g s2) (g t2) h e2) in
+    let with_f = subst (λ (k : Term → Term). Unifies (atom.Link p s s2) (atom.Link p t t2) k (atom.Link p (merged (k s) (k t)) (merged (k s2) (k t2))))
+    (sym is_f) base in
     let with_z = subst (λ (w : QAtom). Unifies (atom.Link p s s2) (atom.Link p t t2) f w) (sym is) with_f in
     subst (λ (n : ℕ). Unifies (atom.Link p s s2) (atom.Link n t t2) f z) same with_z
 
@@ -170,7 +175,8 @@ meant_under body more f p h term.Any meant = absurd meant
 
 -- a safe query under the unification of two of its atoms, the one atom in their place, is safe
 pub reduce_step_is_safe : (q : Query) (i j : ℕ) (d : QAtom) (f : Term → Term) (z : QAtom) → i < j → j < length q.body
-    → Unifies (get_or q.body i d) (get_or q.body j d) f z → IsSafe q → IsSafe (record { head = map f q.head; body = set (map (map_atom f) (without q.body j)) i z })
+    → Unifies (get_or q.body i d) (get_or q.body j d) f z → IsSafe q
+    → IsSafe (record { head = map f q.head; body = set (map (map_atom f) (without q.body j)) i z })
 reduce_step_is_safe q i j d f z order place u safe =
     let body = q.body in
     let more = set (map (map_atom f) (without body j)) i z in

@@ -19,12 +19,14 @@ use Rattle.cq_steps.proofs.Without.{Any-set}
 -- ---- the axiom step
 
 -- a variable of a role's atom is one of its terms
-stands-role : (l : ℕ) (r : Role) (inverse : Bool) (s t : Term) → StandsIn l (cond inverse (atom.Link r.pred t s) (atom.Link r.pred s t)) → (s ≡ Var l) ⊎ (t ≡ Var l)
+stands-role : (l : ℕ) (r : Role) (inverse : Bool) (s t : Term) → StandsIn l (cond inverse (atom.Link r.pred t s) (atom.Link r.pred s t)) → (s ≡ Var l)
+    ⊎ (t ≡ Var l)
 stands-role l r true s t (inl h) = inr h
 stands-role l r true s t (inr h) = inl h
 stands-role l r false s t h = h
 
-role-stands : (l : ℕ) (r : Role) (inverse : Bool) (s t : Term) → (s ≡ Var l) ⊎ (t ≡ Var l) → StandsIn l (cond inverse (atom.Link r.pred t s) (atom.Link r.pred s t))
+role-stands : (l : ℕ) (r : Role) (inverse : Bool) (s t : Term) → (s ≡ Var l) ⊎ (t ≡ Var l)
+    → StandsIn l (cond inverse (atom.Link r.pred t s) (atom.Link r.pred s t))
 role-stands l r true s t (inl h) = inr h
 role-stands l r true s t (inr h) = inl h
 role-stands l r false s t h = h

@@ -34,7 +34,8 @@ pub record Closes (axioms : List Axiom) (q : Query) (members : List Member) : Ty
 
 -- the queries of such a list are exactly those of the closure
 abbrev pub ClosingListIsClosure : Type 0
-ClosingListIsClosure = (axioms : List Axiom) (q : Query) (members : List Member) → IsDerivation members → Closes axioms q members → IsClosure axioms q (queries_of members)
+ClosingListIsClosure = (axioms : List Axiom) (q : Query) (members : List Member) → IsDerivation members → Closes axioms q members
+    → IsClosure axioms q (queries_of members)
 
 -- the queries of a list in which each other member is the result of its step are in the closure
 abbrev pub DerivedIsInClosure : Type 0

@@ -1,5 +1,6 @@
 -- One more clash, and its part of the tables by fact.
-use Rattle.std.proofs.Common.{◌≡◌, ◌<◌, ◌≢◌, ◌+◌, ◌^◌, ◌⊎◌, inl, inr, ◌↔◌, ℕ, Bool, true, false, List, [], ◌∷◌, ◌++◌, length, take, get_or, set, Some, None, Option, sym, ap, ◌∙◌, subst, arith, Contains, IsTrue}
+use Rattle.std.proofs.Common.{◌≡◌, ◌<◌, ◌≢◌, ◌+◌, ◌^◌, ◌⊎◌, inl, inr, ◌↔◌, ℕ, Bool, true, false, List, [], ◌∷◌, ◌++◌, length, take, get_or, set, Some, None}
+use Rattle.std.proofs.Common.{Option, sym, ap, ◌∙◌, subst, arith, Contains, IsTrue}
 use Rattle.std.specs.List.{flat_map, cons_option}
 use Rattle.std.proofs.lemmas.Bool.{cases_eq}
 use Rattle.std.proofs.lemmas.List.{append-nil, take_more, flat_map_more, length-set, get_or-set_same, get_or-set_other}
@@ -8,7 +9,8 @@ use Rattle.cq_terms.specs.declared.hits.Clash.{Clash}
 use Rattle.cq_terms.specs.FlatLists.{AreGrouped, HaveKeysBelow}
 use Rattle.cq_terms.specs.Conflicts.{IsOneOrTwo, single, couple, own_facts, couples, IsOwn, AreClashes}
 use Rattle.cq_terms.specs.ConflictTables.{both_ways, conflict_entries, AreMarks, AreTables}
-use Rattle.cq_terms.proofs.ConflictsLemmas.{adjacent_sound, adjacent_complete, adjacent_ascending, couples_below, upward, keys_below, entries_count, couples_count}
+use Rattle.cq_terms.proofs.ConflictsLemmas.{adjacent_sound, adjacent_complete, adjacent_ascending, couples_below, upward, keys_below, entries_count}
+use Rattle.cq_terms.proofs.ConflictsLemmas.{couples_count}
 
 -- the clashes up to the next one
 pub next_clash : (clashes : List Clash) (i : ℕ) (c : Clash) → i < length clashes → c ≡ get_or clashes i c → take (i + 1) clashes ≡ take i clashes ++ c ∷ []
@@ -27,7 +29,8 @@ single_below facts (j ∷ []) i o e = let same : i ≡ j = cc e in subst (λ (n 
 single_below facts (j ∷ l ∷ xs) i o e = cc e
 
 -- a clash of one marks its fact
-pub marks_yes : (facts : ℕ) (done : List Clash) (c : Clash) (marks : List Bool) (i : ℕ) → AreMarks facts done marks → Some i ≡ single c.facts → i < facts → AreMarks facts (done ++ c ∷ []) (set marks i true)
+pub marks_yes : (facts : ℕ) (done : List Clash) (c : Clash) (marks : List Bool) (i : ℕ) → AreMarks facts done marks → Some i ≡ single c.facts → i < facts
+    → AreMarks facts (done ++ c ∷ []) (set marks i true)
 marks_yes facts done c marks i h is below = record {
   all = length-set marks i true ∙ h.all;
   exact = λ j l. by j l (cases_eq i j);
@@ -37,33 +40,40 @@ marks_yes facts done c marks i h is below = record {
     now = own_more done c ∙ ap (λ (o : Option ℕ). own_facts done ++ cons_option o []) (sym is)
 
     by : (j : ℕ) → j < facts → (i ≡ j) ⊎ (i ≡ j → ⊥) → IsTrue (get_or (set marks i true) j false) ↔ IsOwn (done ++ c ∷ []) j
-    by j l (inl same) = subst (λ (n : ℕ). IsTrue (get_or (set marks i true) n false) ↔ IsOwn (done ++ c ∷ []) n) same
-        ((λ _. subst (λ (xs : List ℕ). Contains xs i) (sym now) (Contains-push (own_facts done) i)), (λ _. get_or-set_same marks i true false (omega (arith, h.all))))
+    by j l (inl same) = subst (λ (n : ℕ). IsTrue (get_or (set marks i true) n false) ↔ IsOwn (done ++ c ∷ []) n) same (
+      (λ _. subst (λ (xs : List ℕ). Contains xs i) (sym now) (Contains-push (own_facts done) i)),
+      (λ _. get_or-set_same marks i true false (omega (arith, h.all))),
+    )
     by j l (inr other) =
         let not_here : j ≢ i = λ q. other (sym q) in
         let stays = get_or-set_other marks i j true false not_here in (
           (λ t. subst (λ (xs : List ℕ). Contains xs j) (sym now) (Contains-append_left (own_facts done) (i ∷ []) j ((h.exact j l).0 (sym stays ∙ t)))),
-          (λ k. elim (Contains-push_cases (own_facts done) i j (subst (λ (xs : List ℕ). Contains xs j) now k)) [ inl m ↦ stays ∙ (h.exact j l).1 m | inr e ↦ absurd (other e) ]),
+          (λ k. elim (Contains-push_cases (own_facts done) i j (subst (λ (xs : List ℕ). Contains xs j) now k))
+              [ inl m ↦ stays ∙ (h.exact j l).1 m | inr e ↦ absurd (other e) ]),
         )
 
 -- a clash of two marks nothing
-pub marks_no : (facts : ℕ) (done : List Clash) (c : Clash) (marks : List Bool) → AreMarks facts done marks → None ≡ single c.facts → AreMarks facts (done ++ c ∷ []) marks
+pub marks_no : (facts : ℕ) (done : List Clash) (c : Clash) (marks : List Bool) → AreMarks facts done marks → None ≡ single c.facts
+    → AreMarks facts (done ++ c ∷ []) marks
 marks_no facts done c marks h is =
-    let now : own_facts (done ++ c ∷ []) ≡ own_facts done = own_more done c ∙ ap (λ (o : Option ℕ). own_facts done ++ cons_option o []) (sym is) ∙ append-nil (own_facts done) in
+    let now : own_facts (done ++ c ∷ []) ≡ own_facts done = own_more done c ∙ ap (λ (o : Option ℕ). own_facts done ++ cons_option o []) (sym is)
+    ∙ append-nil (own_facts done) in
     record {
       all = h.all;
       exact = λ j l. subst (λ (xs : List ℕ). IsTrue (get_or marks j false) ↔ Contains xs j) (sym now) (h.exact j l);
     }
 
 -- a clash of two has an entry for each fact
-pub entries_yes : (done : List Clash) (c : Clash) (p : ℕ × ℕ) → Some p ≡ couple c.facts → conflict_entries done ++ both_ways p ≡ conflict_entries (done ++ c ∷ [])
+pub entries_yes : (done : List Clash) (c : Clash) (p : ℕ × ℕ) → Some p ≡ couple c.facts
+    → conflict_entries done ++ both_ways p ≡ conflict_entries (done ++ c ∷ [])
 entries_yes done c p is =
     flat_map_more both_ways [] (couples done) p
     ∙ ap (flat_map both_ways) (sym (couples_more done c ∙ ap (λ (o : Option (ℕ × ℕ)). couples done ++ cons_option o []) (sym is)))
 
 -- a clash of one has none
 pub entries_no : (done : List Clash) (c : Clash) → None ≡ couple c.facts → conflict_entries done ≡ conflict_entries (done ++ c ∷ [])
-entries_no done c is = ap (flat_map both_ways) (sym (couples_more done c ∙ ap (λ (o : Option (ℕ × ℕ)). couples done ++ cons_option o []) (sym is) ∙ append-nil (couples done)))
+entries_no done c is = ap (flat_map both_ways) (sym (couples_more done c ∙ ap (λ (o : Option (ℕ × ℕ)). couples done ++ cons_option o []) (sym is)
+    ∙ append-nil (couples done)))
 
 -- the entries are few enough to be grouped, and their keys are facts
 pub entries_few : (facts : ℕ) (clashes : List Clash) → AreClashes facts clashes → length (conflict_entries clashes) < 2 ^ 32
@@ -73,7 +83,8 @@ pub entries_known : (facts : ℕ) (clashes : List Clash) → AreClashes facts cl
 entries_known facts clashes kept = keys_below facts (couples clashes) (couples_below facts clashes kept.each)
 
 -- the marks and the grouped entries are the tables
-pub tables_from : (facts : ℕ) (clashes : List Clash) (marks : List Bool) (lists : List (List ℕ)) → AreClashes facts clashes → AreMarks facts clashes marks → AreGrouped (conflict_entries clashes) facts lists → AreTables facts clashes marks lists
+pub tables_from : (facts : ℕ) (clashes : List Clash) (marks : List Bool) (lists : List (List ℕ)) → AreClashes facts clashes → AreMarks facts clashes marks
+    → AreGrouped (conflict_entries clashes) facts lists → AreTables facts clashes marks lists
 tables_from facts clashes marks lists kept m g =
     let up = upward facts (couples clashes) (couples_below facts clashes kept.each) in
     record {

@@ -1,5 +1,6 @@
 -- The facts that conflict with a fact, from the pairs in conflict.
-use Rattle.std.proofs.Common.{◌≡◌, ◌<◌, ◌≤◌, ◌*◌, ◌⊎◌, inl, inr, ℕ, zero, suc, true, false, eqb, List, [], ◌∷◌, ◌++◌, length, get_or, Some, None, Option, refl, sym, ap, ◌∙◌, subst, arith, Contains}
+use Rattle.std.proofs.Common.{◌≡◌, ◌<◌, ◌≤◌, ◌*◌, ◌⊎◌, inl, inr, ℕ, zero, suc, true, false, eqb, List, [], ◌∷◌, ◌++◌, length, get_or, Some, None, Option}
+use Rattle.std.proofs.Common.{refl, sym, ap, ◌∙◌, subst, arith, Contains}
 use Rattle.std.specs.List.{flat_map, cons_option, All, AllPairs}
 use Rattle.std.proofs.lemmas.Bool.{cases_eq, eq-eqb, ne_eqb}
 use Rattle.std.proofs.lemmas.List.Elements.{All-nil, All-cons, All-head, All-tail, All-contains, Contains-get_or}
@@ -82,7 +83,8 @@ place_of p i up = by (cases_eq p.0 i) (cases_eq p.1 i)
     by (inr a) (inr b) = neither a b
 
 -- a fact of the list of i is in conflict with i
-pub adjacent_sound : (pairs : List (ℕ × ℕ)) (i j : ℕ) → All IsUpward pairs → Contains (values_at (flat_map both_ways pairs) i) j → Contains pairs (i, j) ⊎ Contains pairs (j, i)
+pub adjacent_sound : (pairs : List (ℕ × ℕ)) (i j : ℕ) → All IsUpward pairs → Contains (values_at (flat_map both_ways pairs) i) j → Contains pairs (i, j)
+    ⊎ Contains pairs (j, i)
 adjacent_sound [] i j up h = absurd (Contains-nil j h)
 adjacent_sound (p ∷ pairs) i j up h = by (place_of p i (All-head IsUpward p pairs up)) (λ k. adjacent_sound pairs i j (All-tail IsUpward p pairs up) k)
   where
@@ -105,7 +107,8 @@ adjacent_sound (p ∷ pairs) i j up h = by (place_of p i (All-head IsUpward p pa
     by (neither a b) again = later (again (subst (λ (xs : List ℕ). Contains xs j) (values_neither p rest i a b) h))
 
 -- a fact in conflict with i is in its list
-pub adjacent_complete : (pairs : List (ℕ × ℕ)) (i j : ℕ) → All IsUpward pairs → Contains pairs (i, j) ⊎ Contains pairs (j, i) → Contains (values_at (flat_map both_ways pairs) i) j
+pub adjacent_complete : (pairs : List (ℕ × ℕ)) (i j : ℕ) → All IsUpward pairs → Contains pairs (i, j) ⊎ Contains pairs (j, i)
+    → Contains (values_at (flat_map both_ways pairs) i) j
 adjacent_complete [] i j up (inl h) = absurd (Contains-nil (i, j) h)
 adjacent_complete [] i j up (inr h) = absurd (Contains-nil (j, i) h)
 adjacent_complete (p ∷ pairs) i j up h = by (place_of p i (All-head IsUpward p pairs up)) h (λ k. adjacent_complete pairs i j (All-tail IsUpward p pairs up) k)
@@ -116,14 +119,23 @@ adjacent_complete (p ∷ pairs) i j up h = by (place_of p i (All-head IsUpward p
     parts : (a b : ℕ) → Contains (p ∷ pairs) (a, b) → ((p.0 ≡ a) × (p.1 ≡ b)) ⊎ Contains pairs (a, b)
     parts a b k = elim (Contains-cases p pairs (a, b) k) [ inl e ↦ inl (ap (λ (q : ℕ × ℕ). q.0) e, ap (λ (q : ℕ × ℕ). q.1) e) | inr l ↦ inr l ]
 
-    by : Place p i → Contains (p ∷ pairs) (i, j) ⊎ Contains (p ∷ pairs) (j, i) → (Contains pairs (i, j) ⊎ Contains pairs (j, i) → Contains (values_at rest i) j) → Contains (values_at (both_ways p ++ rest) i) j
+    by : Place p i → Contains (p ∷ pairs) (i, j) ⊎ Contains (p ∷ pairs) (j, i)
+        → (Contains pairs (i, j) ⊎ Contains pairs (j, i) → Contains (values_at rest i) j) → Contains (values_at (both_ways p ++ rest) i) j
     by (first a b) k again = subst (λ (xs : List ℕ). Contains xs j) (sym (values_first p rest i a b)) (elim k [
-      | inl l ↦ elim (parts i j l) [ inl e ↦ subst (Contains (p.1 ∷ values_at rest i)) e.1 (Contains-head p.1 (values_at rest i)) | inr m ↦ Contains-later p.1 (values_at rest i) j (again (inl m)) ]
+      | inl l ↦ elim (parts i j l) [
+        | inl e ↦ subst (Contains (p.1 ∷ values_at rest i)) e.1 (Contains-head p.1 (values_at rest i))
+        | inr m ↦
+            Contains-later p.1 (values_at rest i) j (again (inl m))
+      ]
       | inr l ↦ elim (parts j i l) [ inl e ↦ absurd (b e.1) | inr m ↦ Contains-later p.1 (values_at rest i) j (again (inr m)) ]
     ])
     by (second a b) k again = subst (λ (xs : List ℕ). Contains xs j) (sym (values_second p rest i a b)) (elim k [
       | inl l ↦ elim (parts i j l) [ inl e ↦ absurd (a e.0) | inr m ↦ Contains-later p.0 (values_at rest i) j (again (inl m)) ]
-      | inr l ↦ elim (parts j i l) [ inl e ↦ subst (Contains (p.0 ∷ values_at rest i)) e.0 (Contains-head p.0 (values_at rest i)) | inr m ↦ Contains-later p.0 (values_at rest i) j (again (inr m)) ]
+      | inr l ↦ elim (parts j i l) [
+        | inl e ↦ subst (Contains (p.0 ∷ values_at rest i)) e.0 (Contains-head p.0 (values_at rest i))
+        | inr m ↦
+            Contains-later p.0 (values_at rest i) j (again (inr m))
+      ]
     ])
     by (neither a b) k again = subst (λ (xs : List ℕ). Contains xs j) (sym (values_neither p rest i a b)) (elim k [
       | inl l ↦ elim (parts i j l) [ inl e ↦ absurd (a e.0) | inr m ↦ again (inl m) ]
@@ -133,7 +145,8 @@ adjacent_complete (p ∷ pairs) i j up h = by (place_of p i (All-head IsUpward p
 -- the list of a fact is ascending where the pairs are
 pub adjacent_ascending : (pairs : List (ℕ × ℕ)) (i : ℕ) → All IsUpward pairs → AllPairs IsBefore pairs → IsAscending (values_at (flat_map both_ways pairs) i)
 adjacent_ascending [] i up h = λ a b d less l. absurd (omega arith)
-adjacent_ascending (p ∷ pairs) i up h = by (place_of p i (All-head IsUpward p pairs up)) (adjacent_ascending pairs i (All-tail IsUpward p pairs up) (AllPairs-tail IsBefore p pairs h))
+adjacent_ascending (p ∷ pairs) i up h = by (place_of p i (All-head IsUpward p pairs up))
+    (adjacent_ascending pairs i (All-tail IsUpward p pairs up) (AllPairs-tail IsBefore p pairs h))
   where
     rest : List KeyedNumber
     rest = flat_map both_ways pairs
@@ -162,8 +175,10 @@ adjacent_ascending (p ∷ pairs) i up h = by (place_of p i (All-head IsUpward p 
         ]
 
     by : Place p i → IsAscending (values_at rest i) → IsAscending (values_at (both_ways p ++ rest) i)
-    by (first a b) t = subst IsAscending (sym (values_first p rest i a b)) (AllPairs-cons (λ x y. x < y) p.1 (values_at rest i) (All-from_contains (λ x. p.1 < x) (values_at rest i) (after_first a)) t)
-    by (second a b) t = subst IsAscending (sym (values_second p rest i a b)) (AllPairs-cons (λ x y. x < y) p.0 (values_at rest i) (All-from_contains (λ x. p.0 < x) (values_at rest i) (after_second b)) t)
+    by (first a b) t = subst IsAscending (sym (values_first p rest i a b))
+        (AllPairs-cons (λ x y. x < y) p.1 (values_at rest i) (All-from_contains (λ x. p.1 < x) (values_at rest i) (after_first a)) t)
+    by (second a b) t = subst IsAscending (sym (values_second p rest i a b))
+        (AllPairs-cons (λ x y. x < y) p.0 (values_at rest i) (All-from_contains (λ x. p.0 < x) (values_at rest i) (after_second b)) t)
     by (neither a b) t = subst IsAscending (sym (values_neither p rest i a b)) t
 
 -- a pair of two ascending facts of the table
@@ -190,7 +205,8 @@ keys_below facts [] h = All-nil (λ e. e.key < facts)
 keys_below facts (p ∷ pairs) h =
     let head : IsPairBelow facts p = All-head (IsPairBelow facts) p pairs h in
     let rest = keys_below facts pairs (All-tail (IsPairBelow facts) p pairs h) in
-    All-cons (λ e. e.key < facts) (record { key = p.0; value = p.1 }) (record { key = p.1; value = p.0 } ∷ flat_map both_ways pairs) (omega (arith, head.0, head.1))
+    All-cons (λ e. e.key < facts) (record { key = p.0; value = p.1 }) (record { key = p.1; value = p.0 } ∷ flat_map both_ways pairs)
+    (omega (arith, head.0, head.1))
     (All-cons (λ e. e.key < facts) (record { key = p.1; value = p.0 }) (flat_map both_ways pairs) head.1 rest)
 
 -- there are two entries for each pair, and no more pairs than clashes

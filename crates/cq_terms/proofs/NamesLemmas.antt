@@ -1,5 +1,6 @@
 -- Where a text stands among the texts of a set.
-use Rattle.std.proofs.Common.{◌≡◌, ℕ, Bool, true, false, cond, ◌+◌, ◌||◌, List, [], ◌∷◌, map, get_or, slice_get, position, Some, refl, sym, ap, ◌∙◌, option_map, not, String, Contains, subst}
+use Rattle.std.proofs.Common.{◌≡◌, ℕ, Bool, true, false, cond, ◌+◌, ◌||◌, List, [], ◌∷◌, map, get_or, slice_get, position, Some, refl, sym, ap, ◌∙◌}
+use Rattle.std.proofs.Common.{option_map, not, String, Contains, subst}
 use Rattle.std.specs.List.{list_any, position_or_len, AllByRecursion, IsDistinct}
 use Rattle.std.specs.Cmp.{nat_eq_equiv}
 use Rattle.std.specs.Cmp.Lexicographic.{lists_equiv}
@@ -44,8 +45,10 @@ module _ {A : Type 0} where
       by false e = rw (list_any-map string_bytes (bytes_eq (string_bytes k)) ks, e) (map-append string_bytes ks (k ∷ []))
 
   -- the text of the key that stands at a place
-  pub text_stored : (ks : List (String A)) (i : ℕ) (k x : String A) → slice_get ks i ≡ Some k → string_eq x k ≡ true → slice_get (map string_bytes ks) i ≡ Some (string_bytes x)
-  text_stored ks i k x at same = slice_get-map string_bytes ks i ∙ ap (option_map string_bytes) at ∙ ap Some (sym ((bytes_eq-Decides (string_bytes x) (string_bytes k)).0 same))
+  pub text_stored : (ks : List (String A)) (i : ℕ) (k x : String A) → slice_get ks i ≡ Some k → string_eq x k ≡ true
+      → slice_get (map string_bytes ks) i ≡ Some (string_bytes x)
+  text_stored ks i k x at same = slice_get-map string_bytes ks i ∙ ap (option_map string_bytes) at
+      ∙ ap Some (sym ((bytes_eq-Decides (string_bytes x) (string_bytes k)).0 same))
 
 AllByRecursion-map : {X Y : Type 0} (f : X → Y) (P : Y → Type 0) (xs : List X) → AllByRecursion (λ x. P (f x)) xs → AllByRecursion P (map f xs)
 AllByRecursion-map f P [] h = tt

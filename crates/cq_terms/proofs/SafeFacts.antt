@@ -53,7 +53,8 @@ stands_in-complete l (atom.Link p s t) (inr e) = or_second (is_variable l s) (is
 
 -- a term that passes has a meaning
 is_meant-sound : (body : List QAtom) (t : Term) → is_meant body t ≡ true → IsMeant body t
-is_meant-sound body (term.Var l) h = let found = Any-from_list_any (stands_in l) body h in (found.0, found.1, found.2, found.3, stands_in-sound l found.1 found.4)
+is_meant-sound body (term.Var l) h = let found = Any-from_list_any (stands_in l) body h in
+    (found.0, found.1, found.2, found.3, stands_in-sound l found.1 found.4)
 is_meant-sound body (term.Ind c) h = tt
 is_meant-sound body term.Any h = cc h
 
@@ -69,7 +70,8 @@ all_meant-sound body head h = All-weaker (λ t. is_meant body t ≡ true) (IsMea
 
 -- terms with meanings pass
 all_meant-complete : (body : List QAtom) (head : List Term) → All (IsMeant body) head → list_all (is_meant body) head ≡ true
-all_meant-complete body head h = list_all-from_AllPass (is_meant body) head (All-weaker (IsMeant body) (λ t. is_meant body t ≡ true) (is_meant-complete body) head h)
+all_meant-complete body head h = list_all-from_AllPass (is_meant body) head
+    (All-weaker (IsMeant body) (λ t. is_meant body t ≡ true) (is_meant-complete body) head h)
 
 -- there is an atom
 some_atom : (body : List QAtom) → (length body == 0) ≡ false → 0 < length body
@@ -88,7 +90,8 @@ is_safe-sound head body h = by (length body == 0) refl h
     by false e h = record { body = some_atom body e; head = all_meant-sound body head h }
 
 -- what passes test by test is a query
-pub safe_by_tests : (head : List Term) (body : List QAtom) (r : Bool) → (length body == 0) ≡ false → r ≡ list_all (is_meant body) head → r ≡ true → IsSafe (record { head = head; body = body })
+pub safe_by_tests : (head : List Term) (body : List QAtom) (r : Bool) → (length body == 0) ≡ false → r ≡ list_all (is_meant body) head → r ≡ true
+    → IsSafe (record { head = head; body = body })
 safe_by_tests head body r some all h = record { body = some_atom body some; head = all_meant-sound body head (sym all ∙ h) }
 
 -- a query passes
@@ -103,6 +106,7 @@ if_safe-query q h = rw (is_safe-complete q h) refl
 pub IsSafe-if_safe : (head : List Term) (body : List QAtom) (q : Query) → if_safe head body ≡ Some q → IsSafe q × (q.head ≡ head) × (q.body ≡ body)
 IsSafe-if_safe head body q e = by (is_safe head body) refl e
   where
-    by : (b : Bool) → is_safe head body ≡ b → (if b then Some (record { head = head; body = body }) else None) ≡ Some q → IsSafe q × (q.head ≡ head) × (q.body ≡ body)
+    by : (b : Bool) → is_safe head body ≡ b → (if b then Some (record { head = head; body = body }) else None) ≡ Some q → IsSafe q × (q.head ≡ head)
+        × (q.body ≡ body)
     by true h e = let same : record { head = head; body = body } ≡ q = cc e in rw (← same) (is_safe-sound head body h, refl, refl)
     by false h e = cc e

@@ -9,7 +9,11 @@ use Rattle.std.proofs.lemmas.List.Sorted.{searched}
 use Rattle.cq_terms.specs.Lists.{IsAscending}
 
 rising : (xs : List ℕ) → IsAscending xs → (i j : ℕ) → i ≤ j → j < length xs → get_or xs i 0 ≤ get_or xs j 0
-rising xs up i j le l = elim (cases_eq i j) [ inl e ↦ omega (arith, ap (λ (n : ℕ). get_or xs n 0) e) | inr n ↦ let less = up i j 0 (omega arith) l in omega arith ]
+rising xs up i j le l = elim (cases_eq i j) [
+  | inl e ↦ omega (arith, ap (λ (n : ℕ). get_or xs n 0) e)
+  | inr n ↦ let less = up i j 0 (omega arith) l in
+      omega arith
+]
 
 pub found : (xs : List ℕ) (x : ℕ) (r : Result ℕ ℕ) → IsBinarySearchResult (λ y. nat_cmp y x) xs r → IsAscending xs → (is_ok r ≡ true) ↔ Contains xs x
 found xs x (Ok i) h up =

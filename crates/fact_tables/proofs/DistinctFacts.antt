@@ -1,5 +1,6 @@
 -- Facts without repeats: one more fact, and their places.
-use Rattle.std.proofs.Common.{◌≡◌, ◌⊎◌, inl, inr, ℕ, zero, suc, ◌+◌, ◌≤◌, Bool, true, false, not, ◌||◌, ◌&&◌, ◌==◌, List, [], ◌∷◌, ◌++◌, length, filter, slice_get, Some, refl, sym, ap, ◌∙◌, arith, if◌then◌else◌, subst}
+use Rattle.std.proofs.Common.{◌≡◌, ◌⊎◌, inl, inr, ℕ, zero, suc, ◌+◌, ◌≤◌, Bool, true, false, not, ◌||◌, ◌&&◌, ◌==◌, List, [], ◌∷◌, ◌++◌, length, filter}
+use Rattle.std.proofs.Common.{slice_get, Some, refl, sym, ap, ◌∙◌, arith, if◌then◌else◌, subst}
 use Rattle.std.proofs.lemmas.List.{append-nil, length_push}
 use Rattle.std.proofs.lemmas.Option.{slice_get_within}
 use Rattle.std.proofs.lemmas.Bool.Decides.{Decides-eqb}
@@ -53,16 +54,20 @@ same_sym f g false e = go (same_fact g f) refl
     go false h = h
 
 -- whether another fact stands there doesn't change where those equal to the first go
-others_cons : (x f g : Fact) (fs : List Fact) (b : Bool) → same_fact f x ≡ false → same_fact x g ≡ b → list_any (same_fact f) (filter (λ other. not (same_fact x other)) fs) ≡ list_any (same_fact f) fs → list_any (same_fact f) (filter (λ other. not (same_fact x other)) (g ∷ fs)) ≡ list_any (same_fact f) (g ∷ fs)
+others_cons : (x f g : Fact) (fs : List Fact) (b : Bool) → same_fact f x ≡ false → same_fact x g ≡ b
+    → list_any (same_fact f) (filter (λ other. not (same_fact x other)) fs) ≡ list_any (same_fact f) fs
+    → list_any (same_fact f) (filter (λ other. not (same_fact x other)) (g ∷ fs)) ≡ list_any (same_fact f) (g ∷ fs)
 others_cons x f g fs true apart e more = let h = same_is x g e in let k : same_fact f g ≡ false = rw (← h) apart in rw (e, k) more
 others_cons x f g fs false apart e more = rw e (ap (λ b. same_fact f g || b) more)
 
-others : (x f : Fact) → same_fact f x ≡ false → (fs : List Fact) → list_any (same_fact f) (filter (λ other. not (same_fact x other)) fs) ≡ list_any (same_fact f) fs
+others : (x f : Fact) → same_fact f x ≡ false → (fs : List Fact)
+    → list_any (same_fact f) (filter (λ other. not (same_fact x other)) fs) ≡ list_any (same_fact f) fs
 others x f apart [] = refl
 others x f apart (g ∷ fs) = others_cons x f g fs (same_fact x g) apart refl (others x f apart fs)
 
 -- a fact put last, where those equal to the first go
-put_cons : (x f : Fact) (fs : List Fact) (a b : Bool) → same_fact f x ≡ a → list_any (same_fact f) fs ≡ b → x ∷ filter (λ other. not (same_fact x other)) (with_fact fs f) ≡ with_fact (x ∷ filter (λ other. not (same_fact x other)) fs) f
+put_cons : (x f : Fact) (fs : List Fact) (a b : Bool) → same_fact f x ≡ a → list_any (same_fact f) fs ≡ b
+    → x ∷ filter (λ other. not (same_fact x other)) (with_fact fs f) ≡ with_fact (x ∷ filter (λ other. not (same_fact x other)) fs) f
 put_cons x f fs true true e there = rw (there, e) refl
 put_cons x f fs true false e there =
     let back = same_sym f x true e in
@@ -79,7 +84,8 @@ put_cons x f fs false false e there =
 pub distinct_more : (fs : List Fact) (f : Fact) → distinct_facts (fs ++ f ∷ []) ≡ with_fact (distinct_facts fs) f
 distinct_more [] f = refl
 distinct_more (x ∷ fs) f =
-    ap (λ more. x ∷ filter (λ other. not (same_fact x other)) more) (distinct_more fs f) ∙ put_cons x f (distinct_facts fs) (same_fact f x) (list_any (same_fact f) (distinct_facts fs)) refl refl
+    ap (λ more. x ∷ filter (λ other. not (same_fact x other)) more) (distinct_more fs f)
+    ∙ put_cons x f (distinct_facts fs) (same_fact f x) (list_any (same_fact f) (distinct_facts fs)) refl refl
 
 -- at most one more
 pub length-with_fact : (fs : List Fact) (f : Fact) → length (with_fact fs f) ≤ length fs + 1
@@ -128,7 +134,8 @@ filter_apart : (f : Fact) (fs : List Fact) → AllByRecursion (λ y. same_fact f
 filter_apart f [] = tt
 filter_apart f (g ∷ fs) = go (same_fact f g) refl (filter_apart f fs)
   where
-    go : (b : Bool) → same_fact f g ≡ b → AllByRecursion (λ y. same_fact f y ≡ false) (filter (λ other. not (same_fact f other)) fs) → AllByRecursion (λ y. same_fact f y ≡ false) (filter (λ other. not (same_fact f other)) (g ∷ fs))
+    go : (b : Bool) → same_fact f g ≡ b → AllByRecursion (λ y. same_fact f y ≡ false) (filter (λ other. not (same_fact f other)) fs)
+        → AllByRecursion (λ y. same_fact f y ≡ false) (filter (λ other. not (same_fact f other)) (g ∷ fs))
     go true e more = rw e more
     go false e more = rw e (e, more)
 
@@ -147,7 +154,8 @@ unique_facts [] = tt
 unique_facts (f ∷ fs) = (filter_apart f (distinct_facts fs), filter_distinct (λ other. not (same_fact f other)) (distinct_facts fs) (unique_facts fs))
 
 -- without the repeats no fact stands at two places
-pub distinct_are_distinct : (fs facts : List Fact) → facts ≡ distinct_facts fs → (i j : ℕ) (f : Fact) → slice_get facts i ≡ Some f → slice_get facts j ≡ Some f → i ≡ j
+pub distinct_are_distinct : (fs facts : List Fact) → facts ≡ distinct_facts fs → (i j : ℕ) (f : Fact) → slice_get facts i ≡ Some f
+    → slice_get facts j ≡ Some f → i ≡ j
 distinct_are_distinct fs facts e = rw e (are_distinct (distinct_facts fs) (unique_facts fs))
 
 -- a fact that stands somewhere is found
@@ -175,7 +183,8 @@ fact_stays_put facts new i f at = by (list_any (same_fact new) facts)
     by false = fact_stays facts (new ∷ []) i f at
 
 -- a place of a longer list is one of the shorter one, or the last
-place_of_pushed : (facts : List Fact) (new : Fact) (i : ℕ) (f : Fact) → slice_get (facts ++ new ∷ []) i ≡ Some f → (slice_get facts i ≡ Some f) ⊎ ((i ≡ length facts) × (f ≡ new))
+place_of_pushed : (facts : List Fact) (new : Fact) (i : ℕ) (f : Fact) → slice_get (facts ++ new ∷ []) i ≡ Some f → (slice_get facts i ≡ Some f)
+    ⊎ ((i ≡ length facts) × (f ≡ new))
 place_of_pushed [] new zero f at = inr (refl, cc at)
 place_of_pushed [] new (suc i) f at = absurd (omega (arith, slice_get_within (new ∷ []) (suc i) f at))
 place_of_pushed (g ∷ facts) new zero f at = inl at
@@ -190,7 +199,8 @@ distinct_pushed : (facts : List Fact) (new : Fact) → AreDistinct facts → lis
 distinct_pushed facts new distinct absent i j f a b = by (place_of_pushed facts new i f a) (place_of_pushed facts new j f b)
   where
     no : (k : ℕ) → slice_get facts k ≡ Some f → f ≡ new → ⊥
-    no k at e = let there : list_any (same_fact new) facts ≡ true = found_at facts k new (rw e at at) in let absent_too : list_any (same_fact new) facts ≡ false = absent in cc
+    no k at e = let there : list_any (same_fact new) facts ≡ true = found_at facts k new (rw e at at) in
+        let absent_too : list_any (same_fact new) facts ≡ false = absent in cc
 
     by : (slice_get facts i ≡ Some f) ⊎ ((i ≡ length facts) × (f ≡ new)) → (slice_get facts j ≡ Some f) ⊎ ((j ≡ length facts) × (f ≡ new)) → i ≡ j
     by (inl x) (inl y) = distinct i j f x y

@@ -59,7 +59,8 @@ right_more P [] fields all new = (new, tt)
 right_more P (r ∷ rows) fields all new = (all.0, right_more P rows fields all.1 new)
 
 -- one more record
-read_more : (rows : List Fields) (fields : Fields) (old now new : Vocab) (table more : Table) → AreRead rows old now table → AddsRecord fields now new table more → Keeps now new → length rows < most_records → AreRead (rows ++ fields ∷ []) old new more
+read_more : (rows : List Fields) (fields : Fields) (old now new : Vocab) (table more : Table) → AreRead rows old now table
+    → AddsRecord fields now new table more → Keeps now new → length rows < most_records → AreRead (rows ++ fields ∷ []) old new more
 read_more rows fields old now new table more r adds kept few =
     let size = length_push rows fields in
     record {
@@ -70,10 +71,12 @@ read_more rows fields old now new table more r adds kept few =
       each = AllZip-push (IsFactOf now) (IsFactOf new) (fact_of_more now new kept) rows r.facts fields adds.fact r.each adds.is_fact;
       distinct = adds.adds.facts ∙ ap (λ fs. with_fact fs adds.fact) r.distinct ∙ sym (distinct_more r.facts adds.fact);
       numbers = rw adds.adds.records (AllZip-push (λ f n. slice_get table.facts n ≡ Some f) (λ f n. slice_get more.facts n ≡ Some f)
-          (λ f n at. rw adds.adds.facts (fact_stays_put table.facts adds.fact n f at)) r.facts table.records adds.fact adds.adds.number r.numbers adds.adds.named);
+          (λ f n at. rw adds.adds.facts (fact_stays_put table.facts adds.fact n f at)) r.facts table.records adds.fact adds.adds.number r.numbers
+          adds.adds.named);
     }
 
-module _ (bytes : List ℕ) (rest after : List Fields) (fields : Fields) (old now : Vocab) (table : Table) (p : Progress bytes rest old now table) (next : rest ≡ fields ∷ after) where
+module _ (bytes : List ℕ) (rest after : List Fields) (fields : Fields) (old now : Vocab) (table : Table) (p : Progress bytes rest old now table)
+    (next : rest ≡ fields ∷ after) where
   cut_more : records_of bytes ≡ p.read ++ fields ∷ after
   cut_more = p.cut ∙ ap (λ rows. p.read ++ rows) next
 
@@ -85,7 +88,8 @@ module _ (bytes : List ℕ) (rest after : List Fields) (fields : Fields) (old no
       omega (arith, all, sum)
 
   -- the next record is read
-  pub step : (new : Vocab) (more : Table) → AddsRecord fields now new table more → length table.records < most_records → Keeps now new → Grows (bytes_in fields) now new → Progress bytes after old new more
+  pub step : (new : Vocab) (more : Table) → AddsRecord fields now new table more → length table.records < most_records → Keeps now new
+      → Grows (bytes_in fields) now new → Progress bytes after old new more
   step new more adds few kept grown =
       let size = length_push p.read fields in
       let places = ap length adds.adds.records ∙ length_push table.records adds.adds.number in
@@ -164,4 +168,5 @@ module _ (bytes : List ℕ) (rest : List Fields) (old now : Vocab) (table : Tabl
   -- the numbers of the facts are those of names
   pub all_numbered : All (IsNumbered now) table.facts
   all_numbered = All-from_recursion (IsNumbered now) table.facts
-      (subst (AllByRecursion (IsNumbered now)) (sym p.reads.distinct) (distinct_keeps (IsNumbered now) p.reads.facts (each_numbered now p.read p.reads.facts p.reads.each)))
+      (subst (AllByRecursion (IsNumbered now)) (sym p.reads.distinct)
+      (distinct_keeps (IsNumbered now) p.reads.facts (each_numbered now p.read p.reads.facts p.reads.each)))

@@ -31,7 +31,8 @@ two_fields (x ∷ y ∷ []) a b width at0 at1 = cc
 two_fields (x ∷ y ∷ z ∷ fields) a b width at0 at1 = absurd (omega (arith, width))
 
 -- three fields at their places are all of three
-pub three_fields : (fields : Fields) (a b c : List ℕ) → length fields ≡ 3 → field_at fields 0 ≡ Some a → field_at fields 1 ≡ Some b → field_at fields 2 ≡ Some c → fields ≡ a ∷ b ∷ c ∷ []
+pub three_fields : (fields : Fields) (a b c : List ℕ) → length fields ≡ 3 → field_at fields 0 ≡ Some a → field_at fields 1 ≡ Some b
+    → field_at fields 2 ≡ Some c → fields ≡ a ∷ b ∷ c ∷ []
 unfolding field_at
 three_fields [] a b c width at0 at1 at2 = absurd (omega (arith, width))
 three_fields (x ∷ []) a b c width at0 at1 at2 = absurd (omega (arith, width))
@@ -44,7 +45,8 @@ pub not_texts : (fields : Fields) (i : ℕ) (f : List ℕ) → field_at fields i
 not_texts fields i f at not all = not (each_field IsUtf8 fields i f all at)
 
 -- where the text of a result is asked for and there is none, the result is an error
-pub none_of_err : {T E : Type 0} (r : Result T E) (P : T → Type 0) (Q : E → Type 0) (R : Type 0) → MatchResult r P Q → ((e : E) → Q e → R) → IfNone (result_ok r) R
+pub none_of_err : {T E : Type 0} (r : Result T E) (P : T → Type 0) (Q : E → Type 0) (R : Type 0) → MatchResult r P Q → ((e : E) → Q e → R)
+    → IfNone (result_ok r) R
 none_of_err (Ok x) P Q R h more = tt
 none_of_err (Err e) P Q R h more = more e h
 

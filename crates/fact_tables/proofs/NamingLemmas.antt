@@ -19,10 +19,13 @@ with_texts-append texts (text ∷ more) last = with_texts-append (with_text text
 
 flat_map-append : (f : Fields → List (List ℕ)) (rows more : List Fields) → flat_map f (rows ++ more) ≡ flat_map f rows ++ flat_map f more
 flat_map-append f [] more = refl
-flat_map-append f (fields ∷ rows) more = ap (λ t. f fields ++ t) (flat_map-append f rows more) ∙ sym (append_assoc (f fields) (flat_map f rows) (flat_map f more))
+flat_map-append f (fields ∷ rows) more = ap (λ t. f fields ++ t) (flat_map-append f rows more)
+    ∙ sym (append_assoc (f fields) (flat_map f rows) (flat_map f more))
 
-more_names : (f : Fields → List (List ℕ)) (rows more : List Fields) (old now new : List (List ℕ)) → now ≡ with_texts old (flat_map f rows) → new ≡ with_texts now (flat_map f more) → new ≡ with_texts old (flat_map f (rows ++ more))
-more_names f rows more old now new e d = d ∙ ap (λ texts. with_texts texts (flat_map f more)) e ∙ sym (with_texts-append old (flat_map f rows) (flat_map f more)) ∙ ap (with_texts old) (sym (flat_map-append f rows more))
+more_names : (f : Fields → List (List ℕ)) (rows more : List Fields) (old now new : List (List ℕ)) → now ≡ with_texts old (flat_map f rows)
+    → new ≡ with_texts now (flat_map f more) → new ≡ with_texts old (flat_map f (rows ++ more))
+more_names f rows more old now new e d = d ∙ ap (λ texts. with_texts texts (flat_map f more)) e
+    ∙ sym (with_texts-append old (flat_map f rows) (flat_map f more)) ∙ ap (with_texts old) (sym (flat_map-append f rows more))
 
 -- the names of more records are put after those of others
 pub names_more : (rows more : List Fields) (old now new : Vocab) → PutsNames rows old now → PutsNames more now new → PutsNames (rows ++ more) old new
@@ -76,7 +79,8 @@ fact_of_more old new keeps (a ∷ []) given h = absurd h
 fact_of_more old new keeps (a ∷ b ∷ []) (fact.Concept p c) h = (stays_in _ _ p a keeps.concepts h.0, stays_in _ _ c b keeps.inds h.1)
 fact_of_more old new keeps (a ∷ b ∷ []) (fact.Link p c d) h = absurd h
 fact_of_more old new keeps (a ∷ b ∷ e ∷ []) (fact.Concept p c) h = absurd h
-fact_of_more old new keeps (a ∷ b ∷ e ∷ []) (fact.Link p c d) h = (stays_in _ _ p a keeps.roles h.0, stays_in _ _ c b keeps.inds h.1, stays_in _ _ d e keeps.inds h.2)
+fact_of_more old new keeps (a ∷ b ∷ e ∷ []) (fact.Link p c d) h =
+    (stays_in _ _ p a keeps.roles h.0, stays_in _ _ c b keeps.inds h.1, stays_in _ _ d e keeps.inds h.2)
 fact_of_more old new keeps (a ∷ b ∷ e ∷ f ∷ fields) given h = absurd h
 
 -- the numbers of a record's fact are those of names

@@ -44,14 +44,16 @@ before_here : (xs : List ℕ) (b : ℕ) → is_blank b ≡ false → before_blan
 unfolding before_blanks
 before_here [] b blank_not = rw blank_not refl
 before_here (x ∷ xs) b blank_not =
-    let none : list_all is_blank (x ∷ xs ++ b ∷ []) ≡ false = list_all-push is_blank (x ∷ xs) b ∙ ap (λ t. list_all is_blank (x ∷ xs) && t) blank_not ∙ none_after _ in
+    let none : list_all is_blank (x ∷ xs ++ b ∷ []) ≡ false = list_all-push is_blank (x ∷ xs) b ∙ ap (λ t. list_all is_blank (x ∷ xs) && t) blank_not
+    ∙ none_after _ in
     rw none (ap (λ t. x ∷ t) (before_here xs b blank_not))
 
 before_skip : (xs : List ℕ) (b : ℕ) → is_blank b ≡ true → before_blanks (xs ++ b ∷ []) ≡ before_blanks xs
 unfolding before_blanks
 before_skip [] b blank_is = rw blank_is refl
 before_skip (x ∷ xs) b blank_is =
-    let same : list_all is_blank (x ∷ xs ++ b ∷ []) ≡ list_all is_blank (x ∷ xs) = list_all-push is_blank (x ∷ xs) b ∙ ap (λ t. list_all is_blank (x ∷ xs) && t) blank_is ∙ as_before _ in
+    let same : list_all is_blank (x ∷ xs ++ b ∷ []) ≡ list_all is_blank (x ∷ xs) =
+    list_all-push is_blank (x ∷ xs) b ∙ ap (λ t. list_all is_blank (x ∷ xs) && t) blank_is ∙ as_before _ in
     rw same (ap (λ t. if list_all is_blank (x ∷ xs) then [] else x ∷ t) (before_skip xs b blank_is))
 
 pub end_here : (xs : List ℕ) (b : ℕ) (rest : List ℕ) → xs ≡ rest ++ b ∷ [] → is_blank b ≡ false → xs ≡ before_blanks xs

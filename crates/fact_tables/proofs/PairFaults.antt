@@ -3,13 +3,15 @@ use Rattle.std.proofs.Common.{◌≡◌, ℕ, ◌+◌, List, refl}
 use Rattle.fact_tables.specs.PairRecords.{HasFault, IsPairRecord, PairFault, bad_number, bad_width, most_pairs, no_such_record, too_many}
 use Rattle.fact_tables.specs.Tables.{Fields}
 
-pub wrong : (records : List ℕ) (fault : PairFault) (number : ℕ) (fields : Fields) → HasFault records fault number fields → IsPairRecord records fields → number ≡ most_pairs + 1
+pub wrong : (records : List ℕ) (fault : PairFault) (number : ℕ) (fields : Fields) → HasFault records fault number fields → IsPairRecord records fields
+    → number ≡ most_pairs + 1
 wrong records bad_width number fields h right = absurd (h right.width)
 wrong records bad_number number fields h right = absurd (h.1 right.numbers)
 wrong records no_such_record number fields h right = absurd (h.2 right.named)
 wrong records too_many number fields h right = h.1
 
-pub same : (records : List ℕ) (fault other : PairFault) (number : ℕ) (fields : Fields) → HasFault records fault number fields → HasFault records other number fields → fault ≡ other
+pub same : (records : List ℕ) (fault other : PairFault) (number : ℕ) (fields : Fields) → HasFault records fault number fields
+    → HasFault records other number fields → fault ≡ other
 same records bad_width bad_width number fields h k = refl
 same records bad_width bad_number number fields h k = absurd (h k.0)
 same records bad_width no_such_record number fields h k = absurd (h k.0)

@@ -34,12 +34,14 @@ push_first : (rows : List Fields) (r : Fields) (last : List Fields) → rows ++ 
 push_first [] r last = refl
 push_first (x ∷ rows) r last = ap (λ t. x ∷ t) (push_first rows r last)
 
-module _ (bytes records : List ℕ) (rest after : List Fields) (fields : Fields) (pairs : List Pair) (p : Progress bytes records rest pairs) (next : rest ≡ fields ∷ after) where
+module _ (bytes records : List ℕ) (rest after : List Fields) (fields : Fields) (pairs : List Pair) (p : Progress bytes records rest pairs)
+    (next : rest ≡ fields ∷ after) where
   cut_more : records_of bytes ≡ p.read ++ fields ∷ after
   cut_more = p.cut ∙ ap (λ rows. p.read ++ rows) next
 
   -- the next record is read
-  pub step : (pair : Pair) (more : List Pair) → IsPairRecord records fields → IsPairOf records fields pair → ◌≢◌ (length pairs) most_pairs → more ≡ pairs ++ pair ∷ [] → Progress bytes records after more
+  pub step : (pair : Pair) (more : List Pair) → IsPairRecord records fields → IsPairOf records fields pair → ◌≢◌ (length pairs) most_pairs
+      → more ≡ pairs ++ pair ∷ [] → Progress bytes records after more
   step pair more right exact few pushed =
       let size = length_push p.read fields in
       let places = ap length pushed ∙ length_push pairs pair in
@@ -74,7 +76,8 @@ module _ (bytes records : List ℕ) (rest after : List Fields) (fields : Fields)
   refuse refusal.TooMany h = first too_many (most_pairs + 1) (h.0, refl) (sym h.1)
   refuse refusal.NoMemory h = tt
 
-each_named : (records : List ℕ) (count : ℕ) (rows : List Fields) (pairs : List Pair) → All (λ n. n < count) records → AllZip (IsPairOf records) rows pairs → AllByRecursion (λ p. (p.upper < count) × (p.lower < count)) pairs
+each_named : (records : List ℕ) (count : ℕ) (rows : List Fields) (pairs : List Pair) → All (λ n. n < count) records → AllZip (IsPairOf records) rows pairs
+    → AllByRecursion (λ p. (p.upper < count) × (p.lower < count)) pairs
 each_named records count [] [] all each = tt
 each_named records count [] (q ∷ pairs) all each = absurd each
 each_named records count (r ∷ rows) [] all each = absurd each

@@ -20,13 +20,15 @@ found_none None f s rest n = refl
 found_none (Some p) f s rest n = cc n.0
 
 -- a record was found
-some_next : (before after : Option (List ℕ)) (s t : State) (f : Fields) → IsSome before → ReadsNext default_config s before after true f t → rows_left before s ≡ f ∷ rows_left after t
+some_next : (before after : Option (List ℕ)) (s t : State) (f : Fields) → IsSome before → ReadsNext default_config s before after true f t
+    → rows_left before s ≡ f ∷ rows_left after t
 some_next None after s t f known r = cc known
 some_next (Some xs) None s t f known r = absurd r
 some_next (Some xs) (Some ys) s t f known r = rows_from-some s xs (f, t, ys) (found_one _ f t ys r)
 
 -- none was found
-none_next : (before after : Option (List ℕ)) (s t : State) (f : Fields) → IsSome before → ReadsNext default_config s before after false f t → rows_left before s ≡ []
+none_next : (before after : Option (List ℕ)) (s t : State) (f : Fields) → IsSome before → ReadsNext default_config s before after false f t
+    → rows_left before s ≡ []
 none_next None after s t f known r = cc known
 none_next (Some xs) None s t f known r = absurd r
 none_next (Some xs) (Some ys) s t f known r = rows_from-none s xs (found_none _ f t ys r)

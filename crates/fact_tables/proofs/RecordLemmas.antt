@@ -1,8 +1,10 @@
 -- Byte order marks, and the records of a text one after another.
-use Rattle.std.proofs.Common.{◌≡◌, ℕ, zero, suc, ◌+◌, ◌<◌, ◌≤◌, Bool, true, false, cond, ◌==◌, ◌&&◌, List, [], ◌∷◌, ◌++◌, length, drop, Option, Some, None, nat_eq, refl, ap, subst, ◌∙◌, arith, if◌then◌else◌}
+use Rattle.std.proofs.Common.{◌≡◌, ℕ, zero, suc, ◌+◌, ◌<◌, ◌≤◌, Bool, true, false, cond, ◌==◌, ◌&&◌, List, [], ◌∷◌, ◌++◌, length, drop, Option, Some, None}
+use Rattle.std.proofs.Common.{nat_eq, refl, ap, subst, ◌∙◌, arith, if◌then◌else◌}
 use Rattle.std.proofs.lemmas.Bool.Decides.{nat_tests}
 use Rattle.std.specs.List.{starts_with}
-use Rattle.csv.specs.Machine.{Read, next_record, step, is_end, ends_at_end, fields_after, field_after, ends_with, after_end, in_field, start_field, start_record, is_byte}
+use Rattle.csv.specs.Machine.{Read, next_record, step, is_end, ends_at_end, fields_after, field_after, ends_with, after_end, in_field, start_field}
+use Rattle.csv.specs.Machine.{start_record, is_byte}
 use Rattle.csv.specs.Reading.{default_config, records, records_from, records_next, strip_bom, is_bom}
 use Rattle.csv.specs.declared.parser.Config.{Config}
 use Rattle.csv.specs.declared.parser.State.{State}
@@ -82,7 +84,8 @@ fine_step : (cfg : Config) (s : State) (c : ℕ) → Fine (step cfg s c)
 fine_step cfg st.StartRecord c = fine_start_record cfg c
 fine_step cfg st.StartField c = fine_start_field cfg c
 fine_step cfg st.InField c = fine_in_field cfg c
-fine_step cfg st.InQuoted c = fine_if (cfg.quoting && (c == cfg.quote)) _ _ (λ e. cc e) (fine_if (cfg.quoting && is_byte cfg.escape c) _ _ (λ e. cc e) (λ e. cc e))
+fine_step cfg st.InQuoted c = fine_if (cfg.quoting && (c == cfg.quote)) _ _ (λ e. cc e)
+    (fine_if (cfg.quoting && is_byte cfg.escape c) _ _ (λ e. cc e) (λ e. cc e))
 fine_step cfg st.InEscape c = λ e. cc e
 fine_step cfg st.AfterQuote c = fine_if (cfg.quoting && cfg.double_quote && (c == cfg.quote)) _ _ (λ e. cc e) (fine_in_field cfg c)
 fine_step cfg st.InComment c = fine_if (c == 10) _ _ (λ e. cc e) (λ e. cc e)
@@ -107,8 +110,10 @@ shorter cfg s fields field [] p h = by (ends_at_end s) h
 shorter cfg s fields field (c ∷ rest) p h = by (is_end (step cfg s c).1) refl h (λ k. shorter cfg (step cfg s c).0 _ _ rest p k)
   where
     by : (b : Bool) → is_end (step cfg s c).1 ≡ b
-        → cond b (Some (fields_after (step cfg s c).1 fields field, (step cfg s c).0, rest)) (next_record cfg (step cfg s c).0 (fields_after (step cfg s c).1 fields field) (field_after (step cfg s c).1 c field) rest) ≡ Some p
-        → (next_record cfg (step cfg s c).0 (fields_after (step cfg s c).1 fields field) (field_after (step cfg s c).1 c field) rest ≡ Some p → length p.2 + last_of p.1 < length rest + last_of (step cfg s c).0)
+        → cond b (Some (fields_after (step cfg s c).1 fields field, (step cfg s c).0, rest))
+        (next_record cfg (step cfg s c).0 (fields_after (step cfg s c).1 fields field) (field_after (step cfg s c).1 c field) rest) ≡ Some p
+        → (next_record cfg (step cfg s c).0 (fields_after (step cfg s c).1 fields field) (field_after (step cfg s c).1 c field) rest ≡ Some p
+        → length p.2 + last_of p.1 < length rest + last_of (step cfg s c).0)
         → length p.2 + last_of p.1 < length (c ∷ rest) + last_of s
     by true e k more =
         let same : (fields_after (step cfg s c).1 fields field, (step cfg s c).0, rest) ≡ p = cc k in
@@ -117,21 +122,25 @@ shorter cfg s fields field (c ∷ rest) p h = by (is_end (step cfg s c).1) refl 
     by false e k more = omega (arith, more k, last_le (step cfg s c).0)
 
 -- more turns than there are records make no difference
-records_from-turns : (cfg : Config) (n m : ℕ) (s : State) (xs : List ℕ) → length xs + last_of s < n → length xs + last_of s < m → records_from cfg n s xs ≡ records_from cfg m s xs
+records_from-turns : (cfg : Config) (n m : ℕ) (s : State) (xs : List ℕ) → length xs + last_of s < n → length xs + last_of s < m
+    → records_from cfg n s xs ≡ records_from cfg m s xs
 unfolding records_from
 records_from-turns cfg zero m s xs a b = absurd (omega arith)
 records_from-turns cfg (suc n) zero s xs a b = absurd (omega arith)
 records_from-turns cfg (suc n) (suc m) s xs a b =
-    by (next_record cfg s [] [] xs) (λ p e. let less = shorter cfg s [] [] xs p e in records_from-turns cfg n m p.1 p.2 (omega (arith, less)) (omega (arith, less)))
+    by (next_record cfg s [] [] xs) (λ p e. let less = shorter cfg s [] [] xs p e in
+    records_from-turns cfg n m p.1 p.2 (omega (arith, less)) (omega (arith, less)))
   where
-    by : (o : Option Read) → ((p : Read) → o ≡ Some p → records_from cfg n p.1 p.2 ≡ records_from cfg m p.1 p.2) → records_next (records_from cfg n) o ≡ records_next (records_from cfg m) o
+    by : (o : Option Read) → ((p : Read) → o ≡ Some p → records_from cfg n p.1 p.2 ≡ records_from cfg m p.1 p.2)
+        → records_next (records_from cfg n) o ≡ records_next (records_from cfg m) o
     by None more = refl
     by (Some p) more = ap (λ rows. p.0 ∷ rows) (more p refl)
 
 -- one record more than there are turns left
 rows_from-next : (s : State) (xs : List ℕ) → rows_from s xs ≡ records_next (records_from default_config (length xs + 1)) (next_record default_config s [] [] xs)
 unfolding records_from
-rows_from-next s xs = let last = last_le s in records_from-turns default_config (length xs + 2) (suc (length xs + 1)) s xs (omega (arith, last)) (omega (arith, last))
+rows_from-next s xs = let last = last_le s in records_from-turns default_config (length xs + 2) (suc (length xs + 1)) s xs (omega (arith, last))
+    (omega (arith, last))
 
 -- a record, and those after it
 pub rows_from-some : (s : State) (xs : List ℕ) (p : Read) → next_record default_config s [] [] xs ≡ Some p → rows_from s xs ≡ p.0 ∷ rows_from p.1 p.2

@@ -1,5 +1,6 @@
 -- The fields of the records of a text have together no more bytes than the text.
-use Rattle.std.proofs.Common.{◌≡◌, ℕ, zero, suc, ◌+◌, ◌≤◌, Bool, true, false, cond, List, [], ◌∷◌, ◌++◌, length, Option, Some, None, refl, sym, ap, subst, arith, if◌then◌else◌, append_assoc, ◌∙◌}
+use Rattle.std.proofs.Common.{◌≡◌, ℕ, zero, suc, ◌+◌, ◌≤◌, Bool, true, false, cond, List, [], ◌∷◌, ◌++◌, length, Option, Some, None, refl, sym, ap, subst}
+use Rattle.std.proofs.Common.{arith, if◌then◌else◌, append_assoc, ◌∙◌}
 use Rattle.std.proofs.lemmas.List.{length-append, append-nil}
 use Rattle.std.specs.List.{flat_map}
 use Rattle.csv.specs.Machine.{Read, next_record, step, is_end, ends_at_end, fields_after, field_after}
@@ -30,7 +31,8 @@ bytes_in-push : (fields : Fields) (field : List ℕ) → bytes_in (fields ++ fie
 bytes_in-push fields field = ap length (joined_push fields field) ∙ length-append _ field
 
 -- one byte adds at most itself
-step_bytes : (a : Action) (c : ℕ) (fields : Fields) (field : List ℕ) → bytes_in (fields_after a fields field) + length (field_after a c field) ≤ bytes_in fields + length field + 1
+step_bytes : (a : Action) (c : ℕ) (fields : Fields) (field : List ℕ)
+    → bytes_in (fields_after a fields field) + length (field_after a c field) ≤ bytes_in fields + length field + 1
 step_bytes act.Copy c fields field = let e = length-append field (c ∷ []) in omega (arith, e)
 step_bytes act.EndField c fields field = let e = bytes_in-push fields field in omega (arith, e)
 step_bytes act.Skip c fields field = omega arith
@@ -51,8 +53,10 @@ record_bytes cfg s fields field [] p h = by (ends_at_end s) h
 record_bytes cfg s fields field (c ∷ rest) p h = by (is_end (step cfg s c).1) h (λ k. record_bytes cfg (step cfg s c).0 _ _ rest p k)
   where
     by : (b : Bool)
-        → cond b (Some (fields_after (step cfg s c).1 fields field, (step cfg s c).0, rest)) (next_record cfg (step cfg s c).0 (fields_after (step cfg s c).1 fields field) (field_after (step cfg s c).1 c field) rest) ≡ Some p
-        → (next_record cfg (step cfg s c).0 (fields_after (step cfg s c).1 fields field) (field_after (step cfg s c).1 c field) rest ≡ Some p → bytes_in p.0 + length p.2 ≤ bytes_in (fields_after (step cfg s c).1 fields field) + length (field_after (step cfg s c).1 c field) + length rest)
+        → cond b (Some (fields_after (step cfg s c).1 fields field, (step cfg s c).0, rest))
+        (next_record cfg (step cfg s c).0 (fields_after (step cfg s c).1 fields field) (field_after (step cfg s c).1 c field) rest) ≡ Some p
+        → (next_record cfg (step cfg s c).0 (fields_after (step cfg s c).1 fields field) (field_after (step cfg s c).1 c field) rest ≡ Some p
+        → bytes_in p.0 + length p.2 ≤ bytes_in (fields_after (step cfg s c).1 fields field) + length (field_after (step cfg s c).1 c field) + length rest)
         → bytes_in p.0 + length p.2 ≤ bytes_in fields + length field + length (c ∷ rest)
     by true k more =
         let same : (fields_after (step cfg s c).1 fields field, (step cfg s c).0, rest) ≡ p = cc k in
@@ -66,7 +70,8 @@ unfolding records_from
 records_bytes zero s xs = omega arith
 records_bytes (suc n) s xs = by (next_record default_config s [] [] xs) (λ p e. record_bytes default_config s [] [] xs p e) (λ p. records_bytes n p.1 p.2)
   where
-    by : (o : Option Read) → ((p : Read) → o ≡ Some p → bytes_in p.0 + length p.2 ≤ 0 + 0 + length xs) → ((p : Read) → bytes_of (records_from default_config n p.1 p.2) ≤ length p.2) → bytes_of (records_next (records_from default_config n) o) ≤ length xs
+    by : (o : Option Read) → ((p : Read) → o ≡ Some p → bytes_in p.0 + length p.2 ≤ 0 + 0 + length xs)
+        → ((p : Read) → bytes_of (records_from default_config n p.1 p.2) ≤ length p.2) → bytes_of (records_next (records_from default_config n) o) ≤ length xs
     by None one more = omega arith
     by (Some p) one more = omega (arith, one p refl, more p)
 

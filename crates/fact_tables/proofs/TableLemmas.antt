@@ -29,7 +29,8 @@ pub insert_key-fact : (facts : List Fact) (f : Fact) → insert_key eq-value.it 
 insert_key-fact facts f = rw (list_any-same f facts) refl
 
 -- the fact was put, and no record yet
-pub table_put : (facts more : List Fact) (records : List ℕ) (f : Fact) → more ≡ with_fact facts f → IsTable (record { facts = facts; records = records }) → IsTable (record { facts = more; records = records })
+pub table_put : (facts more : List Fact) (records : List ℕ) (f : Fact) → more ≡ with_fact facts f → IsTable (record { facts = facts; records = records })
+    → IsTable (record { facts = more; records = records })
 table_put facts more records f put t =
     let longer = length-with_fact-more facts f in
     rw put (record {
@@ -39,7 +40,8 @@ table_put facts more records f put t =
     })
 
 -- the number of a record was put
-pub table_pushed : (facts : List Fact) (records : List ℕ) (n : ℕ) (f : Fact) → slice_get facts n ≡ Some f → length records < most_records → IsTable (record { facts = facts; records = records }) → IsTable (record { facts = facts; records = records ++ n ∷ [] })
+pub table_pushed : (facts : List Fact) (records : List ℕ) (n : ℕ) (f : Fact) → slice_get facts n ≡ Some f → length records < most_records
+    → IsTable (record { facts = facts; records = records }) → IsTable (record { facts = facts; records = records ++ n ∷ [] })
 table_pushed facts records n f at few t = record {
   distinct = t.distinct;
   named = All-push (λ m. m < length facts) records n t.named (slice_get_within facts n f at);

@@ -1,5 +1,6 @@
 -- The texts of a list of names are distinct.
-use Rattle.std.proofs.Common.{◌≡◌, ◌⊎◌, inl, inr, ℕ, zero, suc, Bool, true, false, cond, List, [], ◌∷◌, ◌++◌, length, slice_get, Some, Contains, refl, sym, ap, ◌∙◌, subst}
+use Rattle.std.proofs.Common.{◌≡◌, ◌⊎◌, inl, inr, ℕ, zero, suc, Bool, true, false, cond, List, [], ◌∷◌, ◌++◌, length, slice_get, Some, Contains, refl, sym}
+use Rattle.std.proofs.Common.{ap, ◌∙◌, subst}
 use Rattle.std.specs.List.{list_any}
 use Rattle.std.specs.Str.{bytes_eq}
 use Rattle.cq_terms.specs.Names.{with_text}
@@ -13,13 +14,15 @@ abbrev pub Apart : List (List ℕ) → Type 0
 Apart texts = (i j : ℕ) (text : List ℕ) → slice_get texts i ≡ Some text → slice_get texts j ≡ Some text → i ≡ j
 
 -- a place of a list with one more text
-push_at : (texts : List (List ℕ)) (last text : List ℕ) (i : ℕ) → slice_get (texts ++ last ∷ []) i ≡ Some text → (slice_get texts i ≡ Some text) ⊎ ((i ≡ length texts) × (last ≡ text))
+push_at : (texts : List (List ℕ)) (last text : List ℕ) (i : ℕ) → slice_get (texts ++ last ∷ []) i ≡ Some text → (slice_get texts i ≡ Some text)
+    ⊎ ((i ≡ length texts) × (last ≡ text))
 push_at [] last text zero e = inr (refl, cc)
 push_at [] last text (suc i) e = cc e
 push_at (first ∷ texts) last text zero e = inl e
 push_at (first ∷ texts) last text (suc i) e = by (push_at texts last text i e)
   where
-    by : (slice_get texts i ≡ Some text) ⊎ ((i ≡ length texts) × (last ≡ text)) → (slice_get texts i ≡ Some text) ⊎ ((suc i ≡ suc (length texts)) × (last ≡ text))
+    by : (slice_get texts i ≡ Some text) ⊎ ((i ≡ length texts) × (last ≡ text)) → (slice_get texts i ≡ Some text)
+        ⊎ ((suc i ≡ suc (length texts)) × (last ≡ text))
     by (inl h) = inl h
     by (inr (same, is)) = inr (ap suc same, is)
 

@@ -1,5 +1,6 @@
 -- How far the terms of a head have a meaning.
-use Rattle.std.proofs.Common.{◌≡◌, ℕ, ◌+◌, ◌<◌, ◌^◌, List, [], ◌∷◌, ◌++◌, length, All, refl, sym, ap, ◌∙◌, arith, append_assoc, append-nil, length-append, subst}
+use Rattle.std.proofs.Common.{◌≡◌, ℕ, ◌+◌, ◌<◌, ◌^◌, List, [], ◌∷◌, ◌++◌, length, All, refl, sym, ap, ◌∙◌, arith, append_assoc, append-nil, length-append}
+use Rattle.std.proofs.Common.{subst}
 use Rattle.std.proofs.lemmas.List.Elements.{All-nil, All-push}
 use Rattle.cq_terms.specs.Query.{IsMeant}
 use Rattle.cq_terms.specs.declared.query.QAtom.{QAtom}
@@ -16,7 +17,8 @@ pub record IsMeantUpTo (body : List QAtom) (head rest : List Term) (place : ℕ)
 pub meant_none : (body : List QAtom) (head : List Term) → IsMeantUpTo body head head 0
 meant_none body head = record { before = []; whole = refl; place_is = refl; all = All-nil (IsMeant body) }
 
-pub meant_more : (body : List QAtom) (head rest : List Term) (place : ℕ) (term : Term) (later : List Term) → IsMeantUpTo body head rest place → rest ≡ term ∷ later → IsMeant body term → IsMeantUpTo body head later (place + 1)
+pub meant_more : (body : List QAtom) (head rest : List Term) (place : ℕ) (term : Term) (later : List Term) → IsMeantUpTo body head rest place
+    → rest ≡ term ∷ later → IsMeant body term → IsMeantUpTo body head later (place + 1)
 meant_more body head rest place term later part split meant = record {
   before = part.before ++ term ∷ [];
   whole = part.whole ∙ ap (λ terms. part.before ++ terms) split ∙ sym (append_assoc part.before (term ∷ []) later);
@@ -24,7 +26,8 @@ meant_more body head rest place term later part split meant = record {
   all = All-push (IsMeant body) part.before term part.all meant;
 }
 
-pub unmeant_at : (body : List QAtom) (head rest : List Term) (place : ℕ) (term : Term) (later : List Term) → IsMeantUpTo body head rest place → rest ≡ term ∷ later → (IsMeant body term → ⊥) → IsFirstUnmeant body head place
+pub unmeant_at : (body : List QAtom) (head rest : List Term) (place : ℕ) (term : Term) (later : List Term) → IsMeantUpTo body head rest place
+    → rest ≡ term ∷ later → (IsMeant body term → ⊥) → IsFirstUnmeant body head place
 unmeant_at body head rest place term later part split unmeant = record {
   before = part.before;
   term = term;
@@ -35,13 +38,15 @@ unmeant_at body head rest place term later part split unmeant = record {
   first = part.all;
 }
 
-pub meant_room : (body : List QAtom) (head rest : List Term) (place : ℕ) (term : Term) (later : List Term) → IsMeantUpTo body head rest place → rest ≡ term ∷ later → length head < 2 ^ 32 → place + 1 < 2 ^ 32
+pub meant_room : (body : List QAtom) (head rest : List Term) (place : ℕ) (term : Term) (later : List Term) → IsMeantUpTo body head rest place
+    → rest ≡ term ∷ later → length head < 2 ^ 32 → place + 1 < 2 ^ 32
 meant_room body head rest place term later part split fits =
     let size = ap length (part.whole ∙ ap (λ terms. part.before ++ terms) split) ∙ length-append part.before (term ∷ later) in
     omega (arith, part.place_is)
 
 pub all_meant : (body : List QAtom) (head rest : List Term) (place : ℕ) → IsMeantUpTo body head rest place → length rest ≡ 0 → All (IsMeant body) head
-all_meant body head rest place part none = subst (All (IsMeant body)) (sym (part.whole ∙ ap (λ terms. part.before ++ terms) (no_terms rest none) ∙ append-nil part.before)) part.all
+all_meant body head rest place part none = subst (All (IsMeant body))
+    (sym (part.whole ∙ ap (λ terms. part.before ++ terms) (no_terms rest none) ∙ append-nil part.before)) part.all
   where
     no_terms : (terms : List Term) → length terms ≡ 0 → terms ≡ []
     no_terms [] e = refl

@@ -19,7 +19,8 @@ pub fault_here : (place : Place) (text : List ℕ) (left : ℕ) → IsStuck plac
 fault_here place text left stuck = record { read = []; fault = stuck }
 
 -- a fault behind a token
-pub fault_later : (place : Place) (token : Token) (text after : List ℕ) (left : ℕ) → IsTrue (may_stand place token) → Stands token (after_gap text) after → FaultFrom (place_behind place token after) after left → FaultFrom place text left
+pub fault_later : (place : Place) (token : Token) (text after : List ℕ) (left : ℕ) → IsTrue (may_stand place token) → Stands token (after_gap text) after
+    → FaultFrom (place_behind place token after) after left → FaultFrom place text left
 fault_later place token text after left may stands fault = record { read = token ∷ fault.read; fault = (may, (after, stands, fault.fault)) }
 
 -- a term may stand at both its places

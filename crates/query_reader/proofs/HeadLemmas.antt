@@ -1,5 +1,6 @@
 -- How far the reader of a head has come.
-use Rattle.std.proofs.Common.{◌≡◌, ◌⊎◌, inl, inr, ℕ, ◌+◌, ◌≤◌, Bool, true, false, cond, List, [], ◌∷◌, ◌++◌, length, map, slice_get, Option, Some, None, Contains, refl, sym, ap, ◌∙◌, arith, append_assoc, length-append, subst, zero, suc}
+use Rattle.std.proofs.Common.{◌≡◌, ◌⊎◌, inl, inr, ℕ, ◌+◌, ◌≤◌, Bool, true, false, cond, List, [], ◌∷◌, ◌++◌, length, map, slice_get, Option, Some, None}
+use Rattle.std.proofs.Common.{Contains, refl, sym, ap, ◌∙◌, arith, append_assoc, length-append, subst, zero, suc}
 use Rattle.std.specs.List.{list_any}
 use Rattle.std.specs.Str.{bytes_eq}
 use Rattle.std.proofs.lemmas.List.{map-append}
@@ -49,7 +50,8 @@ pub record IsHeadPart (text : List ℕ) (place : Place) (rest : List ℕ) (varia
   pub counted : length terms + length rest ≤ length text
 
 -- one more text is the last, or the split is before it
-push_split : (named before after : List (List ℕ)) (last letters : List ℕ) → named ++ last ∷ [] ≡ before ++ letters ∷ after → ((named ≡ before) × (last ≡ letters)) ⊎ ((rest : List (List ℕ)) × (named ≡ before ++ letters ∷ rest))
+push_split : (named before after : List (List ℕ)) (last letters : List ℕ) → named ++ last ∷ [] ≡ before ++ letters ∷ after
+    → ((named ≡ before) × (last ≡ letters)) ⊎ ((rest : List (List ℕ)) × (named ≡ before ++ letters ∷ rest))
 push_split [] [] after last letters e = inl (refl, cc)
 push_split (n ∷ named) [] after last letters e = let same : n ≡ letters = cc in inr (named, ap (λ text. text ∷ named) same)
 push_split [] (b ∷ before) after last letters e = let tail : [] ≡ before ++ letters ∷ after = cc in absurd (nothing before tail)
@@ -57,14 +59,18 @@ push_split [] (b ∷ before) after last letters e = let tail : [] ≡ before ++ 
     nothing : (texts : List (List ℕ)) → [] ≡ texts ++ letters ∷ after → ⊥
     nothing [] k = cc k
     nothing (t ∷ texts) k = cc k
-push_split (n ∷ named) (b ∷ before) after last letters e = let tail : named ++ last ∷ [] ≡ before ++ letters ∷ after = cc in let same : n ≡ b = cc in by same (push_split named before after last letters tail)
+push_split (n ∷ named) (b ∷ before) after last letters e = let tail : named ++ last ∷ [] ≡ before ++ letters ∷ after = cc in let same : n ≡ b = cc in
+    by same (push_split named before after last letters tail)
   where
-    by : n ≡ b → ((named ≡ before) × (last ≡ letters)) ⊎ ((rest : List (List ℕ)) × (named ≡ before ++ letters ∷ rest)) → ((n ∷ named ≡ b ∷ before) × (last ≡ letters)) ⊎ ((rest : List (List ℕ)) × (n ∷ named ≡ b ∷ before ++ letters ∷ rest))
+    by : n ≡ b → ((named ≡ before) × (last ≡ letters)) ⊎ ((rest : List (List ℕ)) × (named ≡ before ++ letters ∷ rest))
+        → ((n ∷ named ≡ b ∷ before) × (last ≡ letters)) ⊎ ((rest : List (List ℕ)) × (n ∷ named ≡ b ∷ before ++ letters ∷ rest))
     by same (inl (k, l)) = inl (rw (same, k) refl, l)
     by same (inr (rest, k)) = inr (rest, ap (λ text. text ∷ named) same ∙ ap (λ texts. b ∷ texts) k)
 
 -- the first repeat after one more variable
-repeat_push : (named variables : List (List ℕ)) (letters : List ℕ) (old new : Option ℕ) (count : ℕ) → IsRepeatOf named old → count ≡ length named → (Contains variables letters → Contains named letters) → (Contains named letters → Contains variables letters) → AddsRepeat old variables letters count new → IsRepeatOf (named ++ letters ∷ []) new
+repeat_push : (named variables : List (List ℕ)) (letters : List ℕ) (old new : Option ℕ) (count : ℕ) → IsRepeatOf named old → count ≡ length named
+    → (Contains variables letters → Contains named letters) → (Contains named letters → Contains variables letters)
+    → AddsRepeat old variables letters count new → IsRepeatOf (named ++ letters ∷ []) new
 repeat_push named variables letters (Some place) new count r e to from adds = subst (IsRepeatOf (named ++ letters ∷ [])) (sym adds) (record {
   before = r.before;
   letters = r.letters;
@@ -74,9 +80,11 @@ repeat_push named variables letters (Some place) new count r e to from adds = su
   repeated = r.repeated;
   first = r.first;
 })
-repeat_push named variables letters None None count r e to from adds = λ before after text whole stood. by before after text stood (push_split named before after letters text whole)
+repeat_push named variables letters None None count r e to from adds =
+    λ before after text whole stood. by before after text stood (push_split named before after letters text whole)
   where
-    by : (before after : List (List ℕ)) (text : List ℕ) → Contains before text → ((named ≡ before) × (letters ≡ text)) ⊎ ((rest : List (List ℕ)) × (named ≡ before ++ text ∷ rest)) → ⊥
+    by : (before after : List (List ℕ)) (text : List ℕ) → Contains before text → ((named ≡ before) × (letters ≡ text))
+        ⊎ ((rest : List (List ℕ)) × (named ≡ before ++ text ∷ rest)) → ⊥
     by before after text stood (inl (same, last)) =
         let there : Contains named text = subst (λ texts. Contains texts text) (sym same) stood in
         adds (from (subst (Contains named) (sym last) there))
@@ -141,20 +149,23 @@ texts_kept texts (first ∷ named) letters there = texts_kept (with_text texts f
 
 named_there : (texts named : List (List ℕ)) (letters : List ℕ) → Contains named letters → Contains (with_texts texts named) letters
 named_there texts [] letters (k, lt, e) = absurd (omega arith)
-named_there texts (first ∷ named) letters (zero, lt, e) = texts_kept (with_text texts first) named letters (subst (Contains (with_text texts first)) e (put_there texts first))
+named_there texts (first ∷ named) letters (zero, lt, e) = texts_kept (with_text texts first) named letters
+    (subst (Contains (with_text texts first)) e (put_there texts first))
 named_there texts (first ∷ named) letters (suc k, lt, e) = named_there (with_text texts first) named letters (k, omega arith, e)
 
 -- terms keep their numbers
 pub AreHeadOf-kept : (old new named : List (List ℕ)) (terms : List Term) → IsPrefix old new → AreHeadOf old named terms → AreHeadOf new named terms
 AreHeadOf-kept old new [] [] kept h = tt
-AreHeadOf-kept old new (letters ∷ named) (term.Var number ∷ terms) kept h = (slice_get-prefix old new number letters kept h.0, AreHeadOf-kept old new named terms kept h.1)
+AreHeadOf-kept old new (letters ∷ named) (term.Var number ∷ terms) kept h =
+    (slice_get-prefix old new number letters kept h.0, AreHeadOf-kept old new named terms kept h.1)
 AreHeadOf-kept old new [] (given ∷ terms) kept h = absurd h
 AreHeadOf-kept old new (letters ∷ named) [] kept h = absurd h
 AreHeadOf-kept old new (letters ∷ named) (term.Ind number ∷ terms) kept h = absurd h
 AreHeadOf-kept old new (letters ∷ named) (term.Any ∷ terms) kept h = absurd h
 
 -- one more term
-AreHeadOf-push : (variables named : List (List ℕ)) (terms : List Term) (letters : List ℕ) (number : ℕ) → AreHeadOf variables named terms → slice_get variables number ≡ Some letters → AreHeadOf variables (named ++ letters ∷ []) (terms ++ term.Var number ∷ [])
+AreHeadOf-push : (variables named : List (List ℕ)) (terms : List Term) (letters : List ℕ) (number : ℕ) → AreHeadOf variables named terms
+    → slice_get variables number ≡ Some letters → AreHeadOf variables (named ++ letters ∷ []) (terms ++ term.Var number ∷ [])
 AreHeadOf-push variables [] [] letters number h last = (last, tt)
 AreHeadOf-push variables (first ∷ named) (term.Var id ∷ terms) letters number h last = (h.0, AreHeadOf-push variables named terms letters number h.1 last)
 AreHeadOf-push variables [] (given ∷ terms) letters number h last = absurd h
@@ -183,7 +194,10 @@ place_of_head true = tt
 place_of_head false = tt
 
 -- one more variable
-pub head_more : (text rest after : List ℕ) (place : Place) (old new : List (List ℕ)) (terms : List Term) (repeated again : Option ℕ) (letters : List ℕ) (number : ℕ) → IsHeadPart text place rest old terms repeated → place ≡ at.Head → Stands (variable letters) (after_gap rest) after → AddsRepeat repeated old letters (length terms) again → new ≡ with_text old letters → slice_get new number ≡ Some letters → IsHeadPart text (head_place (begins is_blank after)) after new (terms ++ term.Var number ∷ []) again
+pub head_more : (text rest after : List ℕ) (place : Place) (old new : List (List ℕ)) (terms : List Term) (repeated again : Option ℕ) (letters : List ℕ)
+    (number : ℕ) → IsHeadPart text place rest old terms repeated → place ≡ at.Head → Stands (variable letters) (after_gap rest) after
+    → AddsRepeat repeated old letters (length terms) again → new ≡ with_text old letters → slice_get new number ≡ Some letters
+    → IsHeadPart text (head_place (begins is_blank after)) after new (terms ++ term.Var number ∷ []) again
 head_more text rest after place old new terms repeated again letters number part is stands adds put named =
     let kept : IsPrefix old new = subst (IsPrefix old) (sym put) (IsPrefix-with_text old letters) in
     let less = stands_shorter (variable letters) rest after stands in
@@ -193,13 +207,18 @@ head_more text rest after place old new terms repeated again letters number part
       named = part.named ++ letters ∷ [];
       place_is = place_of_head (begins is_blank after);
       reads = λ tokens end may reads.
-          subst (λ all. Reads all text end) (sym (ap (λ front. front ++ tokens) (map-append variable part.named (letters ∷ [])) ∙ append_assoc (map variable part.named) (variable letters ∷ []) tokens))
-          (part.reads (variable letters ∷ tokens) end (subst (λ p. MayFollow p (variable letters ∷ tokens)) (sym is) tt) (after, stands, parted letters after tokens may, reads));
-      faults = λ left fault. part.faults left (subst (λ p. FaultFrom p rest left) (sym is) (fault_later at.Head (variable letters) rest after left refl stands fault));
+          subst (λ all. Reads all text end) (sym (ap (λ front. front ++ tokens) (map-append variable part.named (letters ∷ []))
+          ∙ append_assoc (map variable part.named) (variable letters ∷ []) tokens))
+          (part.reads (variable letters ∷ tokens) end (subst (λ p. MayFollow p (variable letters ∷ tokens)) (sym is) tt)
+          (after, stands, parted letters after tokens may, reads));
+      faults = λ left fault. part.faults left (subst (λ p. FaultFrom p rest left) (sym is)
+          (fault_later at.Head (variable letters) rest after left refl stands fault));
       variables_are = put ∙ ap (λ texts. with_text texts letters) old_is ∙ sym (with_texts-push [] part.named letters);
       terms_are = AreHeadOf-push new part.named terms letters number (AreHeadOf-kept old new part.named terms kept part.terms_are) named;
       count = length-append terms (term.Var number ∷ []) ∙ ap (λ n. n + 1) part.count ∙ sym (length-append part.named (letters ∷ []));
-      repeats = repeat_push part.named old letters repeated again (length terms) part.repeats part.count (λ there. first_of_two (texts_there [] part.named letters (subst (λ texts. Contains texts letters) old_is there))) (λ there. subst (λ texts. Contains texts letters) (sym old_is) (named_there [] part.named letters there)) adds;
+      repeats = repeat_push part.named old letters repeated again (length terms) part.repeats part.count
+          (λ there. first_of_two (texts_there [] part.named letters (subst (λ texts. Contains texts letters) old_is there)))
+          (λ there. subst (λ texts. Contains texts letters) (sym old_is) (named_there [] part.named letters there)) adds;
       shorter = omega (arith, part.shorter);
       counted = omega (arith, part.counted, length-append terms (term.Var number ∷ []));
     }
@@ -209,7 +228,8 @@ head_more text rest after place old new terms repeated again letters number part
     first_of_two (inr h) = h
 
 -- the arrow ends a head
-pub head_all : (text rest after : List ℕ) (place : Place) (variables : List (List ℕ)) (head : Head) → IsHeadPart text place rest variables head.terms.items head.repeated → Stands arrow (after_gap rest) after → IsHeadRead text variables head after
+pub head_all : (text rest after : List ℕ) (place : Place) (variables : List (List ℕ)) (head : Head)
+    → IsHeadPart text place rest variables head.terms.items head.repeated → Stands arrow (after_gap rest) after → IsHeadRead text variables head after
 head_all text rest after place variables head part stands =
     let less = stands_shorter arrow rest after stands in
     record {

@@ -1,5 +1,6 @@
 -- The inside of a constant is read in one way.
-use Rattle.std.proofs.Common.{◌≡◌, ◌⊎◌, inl, inr, ℕ, Bool, true, false, cond, List, [], ◌∷◌, ◌++◌, length, Option, Some, None, IfSome, refl, sym, ap, ◌∙◌, subst, append_assoc, eqb}
+use Rattle.std.proofs.Common.{◌≡◌, ◌⊎◌, inl, inr, ℕ, Bool, true, false, cond, List, [], ◌∷◌, ◌++◌, length, Option, Some, None, IfSome, refl, sym, ap, ◌∙◌}
+use Rattle.std.proofs.Common.{subst, append_assoc, eqb}
 use Rattle.std.specs.Str.{IsUtf8, IsValidUpTo}
 use Rattle.std.proofs.Math.Seq.{take-length}
 use Rattle.std.proofs.lemmas.Bool.Decides.{Decides-eqb}
@@ -36,12 +37,15 @@ doubled-push [] byte = by (is_quote byte)
     by : (b : Bool) → cond b (39 ∷ 39 ∷ []) (byte ∷ []) ++ [] ≡ cond b (39 ∷ 39 ∷ []) (byte ∷ [])
     by true = refl
     by false = refl
-doubled-push (first ∷ meant) byte = ap (λ rest. byte_inside first ++ rest) (doubled-push meant byte) ∙ sym (append_assoc (byte_inside first) (doubled meant) (byte_inside byte))
+doubled-push (first ∷ meant) byte = ap (λ rest. byte_inside first ++ rest) (doubled-push meant byte)
+    ∙ sym (append_assoc (byte_inside first) (doubled meant) (byte_inside byte))
 
 -- one more byte is behind
-pub inside_more : (later rest after meant : List ℕ) (byte : ℕ) → later ≡ doubled meant ++ rest → rest ≡ byte_inside byte ++ after → later ≡ doubled (meant ++ byte ∷ []) ++ after
+pub inside_more : (later rest after meant : List ℕ) (byte : ℕ) → later ≡ doubled meant ++ rest → rest ≡ byte_inside byte ++ after
+    → later ≡ doubled (meant ++ byte ∷ []) ++ after
 inside_more later rest after meant byte e f =
-    e ∙ ap (λ bytes. doubled meant ++ bytes) f ∙ sym (append_assoc (doubled meant) (byte_inside byte) after) ∙ ap (λ bytes. bytes ++ after) (sym (doubled-push meant byte))
+    e ∙ ap (λ bytes. doubled meant ++ bytes) f ∙ sym (append_assoc (doubled meant) (byte_inside byte) after)
+    ∙ ap (λ bytes. bytes ++ after) (sym (doubled-push meant byte))
 
 -- no byte of the inside stands where it ends
 no_byte : (byte : ℕ) (rest tail : List ℕ) → IsInsideEnd tail → tail ≡ byte_inside byte ++ rest → ⊥
@@ -80,12 +84,14 @@ byte_once a b rest others e = by (quote_or_not a) (quote_or_not b)
         (cc, cc)
 
 -- the inside and what follows it are told apart
-pub inside_once : (meant other tail rest : List ℕ) → doubled meant ++ tail ≡ doubled other ++ rest → IsInsideEnd tail → IsInsideEnd rest → (meant ≡ other) × (tail ≡ rest)
+pub inside_once : (meant other tail rest : List ℕ) → doubled meant ++ tail ≡ doubled other ++ rest → IsInsideEnd tail → IsInsideEnd rest → (meant ≡ other)
+    × (tail ≡ rest)
 inside_once [] [] tail rest e h k = (refl, e)
 inside_once [] (b ∷ other) tail rest e h k = absurd (no_byte b (doubled other ++ rest) tail h (e ∙ append_assoc (byte_inside b) (doubled other) rest))
 inside_once (a ∷ meant) [] tail rest e h k = absurd (no_byte a (doubled meant ++ tail) rest k (sym e ∙ append_assoc (byte_inside a) (doubled meant) tail))
 inside_once (a ∷ meant) (b ∷ other) tail rest e h k =
-    let first = byte_once a b (doubled meant ++ tail) (doubled other ++ rest) (sym (append_assoc (byte_inside a) (doubled meant) tail) ∙ e ∙ append_assoc (byte_inside b) (doubled other) rest) in
+    let first = byte_once a b (doubled meant ++ tail) (doubled other ++ rest)
+    (sym (append_assoc (byte_inside a) (doubled meant) tail) ∙ e ∙ append_assoc (byte_inside b) (doubled other) rest) in
     let more = inside_once meant other tail rest first.1 h k in
     (rw (first.0, more.0) refl, more.1)
 
@@ -140,7 +146,8 @@ doubled_empty (byte ∷ meant) e = absurd (by (is_quote byte) e)
 module _ (text later inside tail : List ℕ) (opens : text ≡ 39 ∷ later) (has : HasInside (39 ∷ later) inside tail) where
   -- a constant at the front has this inside
   pub front_constant : (meant after : List ℕ) → Stands (constant meant) text after → (inside ≡ doubled meant) × (tail ≡ 39 ∷ after)
-  front_constant meant after stands = has_once (39 ∷ later) inside tail (doubled meant) (39 ∷ after) has (subst (λ bytes. HasInside bytes (doubled meant) (39 ∷ after)) opens (stands_inside text meant after stands))
+  front_constant meant after stands = has_once (39 ∷ later) inside tail (doubled meant) (39 ∷ after) has
+      (subst (λ bytes. HasInside bytes (doubled meant) (39 ∷ after)) opens (stands_inside text meant after stands))
 
   -- so it isn't empty
   pub no_empty : inside ≡ [] → (meant after : List ℕ) → Stands (constant meant) text after → ⊥
@@ -151,19 +158,22 @@ module _ (text later inside tail : List ℕ) (opens : text ≡ 39 ∷ later) (ha
   utf8_inside meant after stands = subst IsUtf8 (sym (front_constant meant after stands).0) stands.valid.1
 
   -- a closed inside that isn't empty and is UTF-8 is a constant
-  pub constant_stands : (written after : List ℕ) → tail ≡ 39 ∷ after → (inside ≡ [] → ⊥) → written ≡ inside → IsUtf8 inside → Stands (constant (halved written)) text after
+  pub constant_stands : (written after : List ℕ) → tail ≡ 39 ∷ after → (inside ≡ [] → ⊥) → written ≡ inside → IsUtf8 inside
+      → Stands (constant (halved written)) text after
   constant_stands written after closes some same utf8 =
       let is : doubled (halved written) ≡ inside = ap (λ bytes. doubled (halved bytes)) same ∙ sym (inside_is (39 ∷ later) inside tail has) in
       record {
         valid = (λ none. some (sym is ∙ ap doubled none), subst IsUtf8 (sym is) utf8);
         whole =
-            opens ∙ has.whole ∙ ap (λ bytes. 39 ∷ bytes) (ap (λ bytes. inside ++ bytes) closes ∙ ap (λ bytes. bytes ++ 39 ∷ after) (sym is) ∙ sym (append_assoc (doubled (halved written)) (39 ∷ []) after));
+            opens ∙ has.whole ∙ ap (λ bytes. 39 ∷ bytes) (ap (λ bytes. inside ++ bytes) closes ∙ ap (λ bytes. bytes ++ 39 ∷ after) (sym is)
+            ∙ sym (append_assoc (doubled (halved written)) (39 ∷ []) after));
         ends = after_quote has.ends;
       }
     where
       after_quote : IsInsideEnd tail → begins is_quote after ≡ false
       after_quote (inl none) = let k : [] ≡ 39 ∷ after = sym none ∙ closes in cc k
-      after_quote (inr (more, at, apart)) = let k : 39 ∷ more ≡ 39 ∷ after = sym at ∙ closes in let same : more ≡ after = cc in subst (λ bytes. begins is_quote bytes ≡ false) same apart
+      after_quote (inr (more, at, apart)) = let k : 39 ∷ more ≡ 39 ∷ after = sym at ∙ closes in let same : more ≡ after = cc in
+          subst (λ bytes. begins is_quote bytes ≡ false) same apart
 
 -- a text begins with one byte
 pub other_byte : (text later rest : List ℕ) (a b : ℕ) → (a ≡ b → ⊥) → text ≡ a ∷ later → text ≡ b ∷ rest → ⊥
@@ -193,7 +203,8 @@ module _ (text inside tail : List ℕ) (has : HasInside text inside tail) where
       ]
 
 -- where the inside is UTF-8, the text doesn't break there
-pub no_break_inside : (place : Place) (later inside tail : List ℕ) → HasInside (39 ∷ later) inside tail → IsUtf8 inside → (left : ℕ) → BreaksInside place (39 ∷ later) left → ⊥
+pub no_break_inside : (place : Place) (later inside tail : List ℕ) → HasInside (39 ∷ later) inside tail → IsUtf8 inside → (left : ℕ)
+    → BreaksInside place (39 ∷ later) left → ⊥
 no_break_inside place later inside tail has utf8 left breaks =
     let once = has_once (39 ∷ later) inside tail breaks.inside breaks.tail has breaks.is_inside in
     no_break breaks.inside breaks.valid (subst IsUtf8 once.0 utf8) breaks.utf8_until

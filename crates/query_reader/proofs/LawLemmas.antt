@@ -4,7 +4,8 @@ use Rattle.std.specs.List.{flat_map}
 use Rattle.query_reader.specs.declared.place.Place.{Place}
 use Rattle.query_reader.specs.declared.place.Place.TheVariants as at
 use Rattle.query_reader.specs.Faults.{may_stand, may_end, place_behind, head_place, FaultBehind, FaultsAreUnique}
-use Rattle.query_reader.specs.Grammar.{NamedTerm, variable_term, constant_term, NamedAtom, concept_atom, role_atom, NamedQuery, term_token, atom_tokens, body_tokens, query_tokens, IsText, EachTextHasOneReading}
+use Rattle.query_reader.specs.Grammar.{NamedTerm, variable_term, constant_term, NamedAtom, concept_atom, role_atom, NamedQuery, term_token, atom_tokens}
+use Rattle.query_reader.specs.Grammar.{body_tokens, query_tokens, IsText, EachTextHasOneReading}
 use Rattle.query_reader.specs.Tokens.{Token, variable, arrow, comma, Stands, Reads, IsParted, after_gap, begins, is_blank, token_text}
 use Rattle.query_reader.proofs.FaultLemmas.{first_may, second_may}
 use Rattle.query_reader.proofs.OnceLemmas.{token_once, fault_once}
@@ -31,7 +32,8 @@ passes_no_fault (t ∷ tokens) [] place text left (may, (after, stands, h)) k = 
 passes_no_fault (t ∷ tokens) (u ∷ read) place text left (may, (after, stands, h)) (also, (rest, again, k)) =
     let once = token_once t u (after_gap text) after rest stands again in
     passes_no_fault tokens read (place_behind place t after) after left h
-    (subst (λ bytes. FaultBehind read (place_behind place t bytes) bytes left) (sym once.1) (subst (λ token. FaultBehind read (place_behind place token rest) rest left) (sym once.0) k))
+    (subst (λ bytes. FaultBehind read (place_behind place t bytes) bytes left) (sym once.1)
+    (subst (λ token. FaultBehind read (place_behind place token rest) rest left) (sym once.0) k))
 
 -- the tokens of a text are one list
 passes_once : (tokens others : List Token) (place : Place) (text : List ℕ) → Passes tokens place text → Passes others place text → tokens ≡ others
@@ -40,34 +42,53 @@ passes_once [] (u ∷ others) place text h (may, (after, stands, k)) = absurd (n
 passes_once (t ∷ tokens) [] place text (may, (after, stands, h)) k = absurd (nothing_stands t (after_gap text) after k.1 stands)
 passes_once (t ∷ tokens) (u ∷ others) place text (may, (after, stands, h)) (also, (rest, again, k)) =
     let once = token_once t u (after_gap text) after rest stands again in
-    let more = passes_once tokens others (place_behind place t after) after h (subst (λ bytes. Passes others (place_behind place t bytes) bytes) (sym once.1) (subst (λ token. Passes others (place_behind place token rest) rest) (sym once.0) k)) in
+    let more = passes_once tokens others (place_behind place t after) after h
+    (subst (λ bytes. Passes others (place_behind place t bytes) bytes) (sym once.1)
+    (subst (λ token. Passes others (place_behind place token rest) rest) (sym once.0) k)) in
     ap (λ token. token ∷ tokens) once.0 ∙ ap (λ rest_tokens. u ∷ rest_tokens) more
 
 -- an atom passes, where what follows it does
-passes_atom : (named : NamedAtom) (tokens : List Token) (text rest : List ℕ) → ((after : List ℕ) → Reads tokens after rest → Passes tokens at.BehindAtom after) → Reads (atom_tokens named ++ tokens) text rest → Passes (atom_tokens named ++ tokens) at.AtomName text
+passes_atom : (named : NamedAtom) (tokens : List Token) (text rest : List ℕ)
+    → ((after : List ℕ) → Reads tokens after rest → Passes tokens at.BehindAtom after) → Reads (atom_tokens named ++ tokens) text rest
+    → Passes (atom_tokens named ++ tokens) at.AtomName text
 passes_atom (concept_atom concept given) tokens text rest next (a, s, p, (b, t, q, (d, u, r, (e, v, w, more)))) =
     (refl, (a, s, (refl, (b, t, (first_may given, (d, u, (refl, (e, v, next e more))))))))
 passes_atom (role_atom role from to) tokens text rest next (a, s, p, (b, t, q, (d, u, r, (e, v, w, (f, x, y, (g, z, o, more)))))) =
     (refl, (a, s, (refl, (b, t, (first_may from, (d, u, (refl, (e, v, (second_may to, (f, x, (refl, (g, z, next g more))))))))))))
 
 -- so do further atoms
-passes_more : (atoms : List NamedAtom) (text rest : List ℕ) → after_gap rest ≡ [] → Reads (flat_map (λ other. comma ∷ atom_tokens other) atoms) text rest → Passes (flat_map (λ other. comma ∷ atom_tokens other) atoms) at.BehindAtom text
+passes_more : (atoms : List NamedAtom) (text rest : List ℕ) → after_gap rest ≡ [] → Reads (flat_map (λ other. comma ∷ atom_tokens other) atoms) text rest
+    → Passes (flat_map (λ other. comma ∷ atom_tokens other) atoms) at.BehindAtom text
 passes_more [] text rest ends e = (refl, ap after_gap e ∙ ends)
-passes_more (named ∷ atoms) text rest ends (after, stands, p, reads) = (refl, (after, stands, passes_atom named (flat_map (λ other. comma ∷ atom_tokens other) atoms) after rest (λ behind more. passes_more atoms behind rest ends more) reads))
+passes_more (named ∷ atoms) text rest ends (after, stands, p, reads) = (
+  refl,
+  (
+    after,
+    stands,
+    passes_atom named (flat_map (λ other. comma ∷ atom_tokens other) atoms) after rest
+        (λ behind more. passes_more atoms behind rest ends more) reads,
+  ),
+)
 
 -- and a body
-passes_body : (body : List NamedAtom) (text rest : List ℕ) → body ≢ [] → after_gap rest ≡ [] → Reads (body_tokens body) text rest → Passes (body_tokens body) at.AtomName text
+passes_body : (body : List NamedAtom) (text rest : List ℕ) → body ≢ [] → after_gap rest ≡ [] → Reads (body_tokens body) text rest
+    → Passes (body_tokens body) at.AtomName text
 passes_body [] text rest some ends reads = absurd (some refl)
-passes_body (named ∷ atoms) text rest some ends reads = passes_atom named (flat_map (λ other. comma ∷ atom_tokens other) atoms) text rest (λ behind more. passes_more atoms behind rest ends more) reads
+passes_body (named ∷ atoms) text rest some ends reads = passes_atom named (flat_map (λ other. comma ∷ atom_tokens other) atoms) text rest
+    (λ behind more. passes_more atoms behind rest ends more) reads
 
 -- and a head before it
-passes_head : (head : List (List ℕ)) (body : List NamedAtom) (blank : Bool) (text rest : List ℕ) → (head ≢ [] → blank ≡ true) → body ≢ [] → after_gap rest ≡ [] → Reads (map variable head ++ arrow ∷ body_tokens body) text rest → Passes (map variable head ++ arrow ∷ body_tokens body) (head_place blank) text
+passes_head : (head : List (List ℕ)) (body : List NamedAtom) (blank : Bool) (text rest : List ℕ) → (head ≢ [] → blank ≡ true) → body ≢ []
+    → after_gap rest ≡ [] → Reads (map variable head ++ arrow ∷ body_tokens body) text rest
+    → Passes (map variable head ++ arrow ∷ body_tokens body) (head_place blank) text
 passes_head [] body true text rest is some ends (after, stands, p, reads) = (refl, (after, stands, passes_body body after rest some ends reads))
 passes_head [] body false text rest is some ends (after, stands, p, reads) = (refl, (after, stands, passes_body body after rest some ends reads))
 passes_head (letters ∷ head) body false text rest is some ends reads = let no : false ≡ true = is (λ e. cc e) in cc no
-passes_head (letters ∷ head) body true text rest is some ends (after, stands, p, reads) = (refl, (after, stands, passes_head head body (begins is_blank after) after rest (parted_by head p) some ends reads))
+passes_head (letters ∷ head) body true text rest is some ends (after, stands, p, reads) =
+    (refl, (after, stands, passes_head head body (begins is_blank after) after rest (parted_by head p) some ends reads))
   where
-    parted_by : (others : List (List ℕ)) → IsParted (variable letters) (map variable others ++ arrow ∷ body_tokens body) after → others ≢ [] → begins is_blank after ≡ true
+    parted_by : (others : List (List ℕ)) → IsParted (variable letters) (map variable others ++ arrow ∷ body_tokens body) after → others ≢ []
+        → begins is_blank after ≡ true
     parted_by [] parted some_others = absurd (some_others refl)
     parted_by (other ∷ others) parted some_others = parted
 
@@ -96,7 +117,8 @@ atom_once (role_atom p s t) (role_atom q u v) xs ys e =
 atom_once (concept_atom c s) (role_atom q u v) xs ys e = cc e
 atom_once (role_atom p s t) (concept_atom d v) xs ys e = cc e
 
-more_once : (atoms others : List NamedAtom) → flat_map (λ other. comma ∷ atom_tokens other) atoms ≡ flat_map (λ other. comma ∷ atom_tokens other) others → atoms ≡ others
+more_once : (atoms others : List NamedAtom) → flat_map (λ other. comma ∷ atom_tokens other) atoms ≡ flat_map (λ other. comma ∷ atom_tokens other) others
+    → atoms ≡ others
 more_once [] [] e = refl
 more_once [] (b ∷ others) e = cc e
 more_once (a ∷ atoms) [] e = cc e
@@ -137,11 +159,13 @@ query_once query other e =
 
 -- a text has one reading
 pub reading_is_one : EachTextHasOneReading
-reading_is_one bytes query other h k = query_once query other (passes_once (query_tokens query) (query_tokens other) at.Head bytes (passes_text bytes query h) (passes_text bytes other k))
+reading_is_one bytes query other h k = query_once query other
+    (passes_once (query_tokens query) (query_tokens other) at.Head bytes (passes_text bytes query h) (passes_text bytes other k))
 
 -- and faults are unique
 pub fault_is_one : FaultsAreUnique
 fault_is_one = record {
-  one = λ bytes byte other h k. let same = fault_once h.fault.read k.fault.read at.Head bytes h.left k.left h.fault.fault k.fault.fault in omega (arith, h.place, k.place);
+  one = λ bytes byte other h k. let same = fault_once h.fault.read k.fault.read at.Head bytes h.left k.left h.fault.fault k.fault.fault in
+      omega (arith, h.place, k.place);
   none = λ bytes query byte text h. passes_no_fault (query_tokens query) h.fault.read at.Head bytes h.left (passes_text bytes query text) h.fault.fault;
 }

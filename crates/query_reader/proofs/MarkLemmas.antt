@@ -1,5 +1,6 @@
 -- A text behind its byte order marks.
-use Rattle.std.proofs.Common.{◌≡◌, ℕ, ◌<◌, ◌≤◌, ◌^◌, Bool, true, false, cond, ◌&&◌, ◌==◌, List, [], ◌∷◌, length, Result, Ok, Err, IfOk, IfErr, arith, sym, subst, suc}
+use Rattle.std.proofs.Common.{◌≡◌, ℕ, ◌<◌, ◌≤◌, ◌^◌, Bool, true, false, cond, ◌&&◌, ◌==◌, List, [], ◌∷◌, length, Result, Ok, Err, IfOk, IfErr, arith, sym}
+use Rattle.std.proofs.Common.{subst, suc}
 use Rattle.cq_terms.specs.declared.names.Vocab.{Vocab}
 use Rattle.axiom_reader.specs.Numbering.{HasRoom}
 use Rattle.query_reader.specs.Queries.{after_marks, GrowsBy}

@@ -99,7 +99,8 @@ ends_or_breaks place text left ends breaks =
       | between e ↦ some_bytes text _ 39 breaks.is_inside.whole e
       | in_variable may e ↦ other_byte text _ [] 39 63 (λ k. cc k) breaks.is_inside.whole e
       | in_arrow may e ↦ other_byte text _ [] 39 60 (λ k. cc k) breaks.is_inside.whole e
-      | in_constant may inside unclosed utf8 ↦ no_break inside breaks.valid utf8 (subst (λ bytes. IsValidUpTo bytes breaks.valid) (has_once text breaks.inside breaks.tail inside [] breaks.is_inside unclosed).0 breaks.utf8_until)
+      | in_constant may inside unclosed utf8 ↦ no_break inside breaks.valid utf8
+          (subst (λ bytes. IsValidUpTo bytes breaks.valid) (has_once text breaks.inside breaks.tail inside [] breaks.is_inside unclosed).0 breaks.utf8_until)
     ]
 
 -- a text breaks in one way
@@ -124,12 +125,14 @@ left_once place text left other (inr (inr a)) (inr (inl b)) = absurd (a.1 other 
 left_once place text left other (inr (inr a)) (inr (inr b)) = a.2 ∙ sym b.2
 
 -- a text has one first fault from a place on
-pub fault_once : (read others : List Token) (place : Place) (text : List ℕ) (left other : ℕ) → FaultBehind read place text left → FaultBehind others place text other → left ≡ other
+pub fault_once : (read others : List Token) (place : Place) (text : List ℕ) (left other : ℕ) → FaultBehind read place text left
+    → FaultBehind others place text other → left ≡ other
 fault_once [] [] place text left other h k = left_once place (after_gap text) left other h.left_is k.left_is
 fault_once [] (u ∷ others) place text left other h (may, (after, stands, k)) = absurd (h.none u after may stands)
 fault_once (t ∷ read) [] place text left other (may, (after, stands, h)) k = absurd (k.none t after may stands)
 fault_once (t ∷ read) (u ∷ others) place text left other (may, (after, stands, h)) (also, (rest, again, k)) =
     let once = token_once t u (after_gap text) after rest stands again in
     let there : FaultBehind others (place_behind place t after) after other =
-    subst (λ bytes. FaultBehind others (place_behind place t bytes) bytes other) (sym once.1) (subst (λ token. FaultBehind others (place_behind place token rest) rest other) (sym once.0) k) in
+    subst (λ bytes. FaultBehind others (place_behind place t bytes) bytes other) (sym once.1)
+    (subst (λ token. FaultBehind others (place_behind place token rest) rest other) (sym once.0) k) in
     fault_once read others (place_behind place t after) after left other h there

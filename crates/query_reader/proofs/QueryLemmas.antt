@@ -1,5 +1,6 @@
 -- A query by numbers is the query over names.
-use Rattle.std.proofs.Common.{◌≡◌, ◌≢◌, ◌⊎◌, inl, inr, ℕ, zero, suc, ◌<◌, ◌≤◌, List, [], ◌∷◌, ◌++◌, length, slice_get, Some, All, Any, refl, sym, ap, ◌∙◌, arith, subst}
+use Rattle.std.proofs.Common.{◌≡◌, ◌≢◌, ◌⊎◌, inl, inr, ℕ, zero, suc, ◌<◌, ◌≤◌, List, [], ◌∷◌, ◌++◌, length, slice_get, Some, All, Any, refl, sym, ap, ◌∙◌}
+use Rattle.std.proofs.Common.{arith, subst}
 use Rattle.std.proofs.lemmas.List.Elements.{All-nil, All-cons, All-head, All-tail}
 use Rattle.cq_terms.specs.Query.{IsMeant, StandsIn, Query}
 use Rattle.cq_terms.specs.declared.names.Vocab.{Vocab}
@@ -109,14 +110,17 @@ module _ (numbers : Numbers) (body : List NamedAtom) (atoms : List QAtom) (are :
   head_inside : (head : List (List ℕ)) (terms : List Term) → AreHeadOf numbers.variables head terms → All (IsMeant atoms) terms → All (IsInBody body) head
   head_inside [] [] h all = All-nil (IsInBody body)
   head_inside (letters ∷ head) (term.Var number ∷ terms) h all =
-      All-cons (IsInBody body) letters head (body_to numbers letters number h.0 body atoms are (All-head (IsMeant atoms) (term.Var number) terms all)) (head_inside head terms h.1 (All-tail (IsMeant atoms) (term.Var number) terms all))
+      All-cons (IsInBody body) letters head (body_to numbers letters number h.0 body atoms are (All-head (IsMeant atoms) (term.Var number) terms all))
+      (head_inside head terms h.1 (All-tail (IsMeant atoms) (term.Var number) terms all))
   head_inside [] (given ∷ terms) h all = absurd h
   head_inside (letters ∷ head) [] h all = absurd h
   head_inside (letters ∷ head) (term.Ind number ∷ terms) h all = absurd h
   head_inside (letters ∷ head) (term.Any ∷ terms) h all = absurd h
 
   -- the variable of a place without a meaning isn't in the body
-  outside_at : Apart numbers.variables → (head : List (List ℕ)) (before : List Term) (given : Term) (after : List Term) → AreHeadOf numbers.variables head (before ++ given ∷ after) → (IsMeant atoms given → ⊥) → All (IsMeant atoms) before → IsFirstOutside (record { head = head; body = body }) (length before)
+  outside_at : Apart numbers.variables → (head : List (List ℕ)) (before : List Term) (given : Term) (after : List Term)
+      → AreHeadOf numbers.variables head (before ++ given ∷ after) → (IsMeant atoms given → ⊥) → All (IsMeant atoms) before
+      → IsFirstOutside (record { head = head; body = body }) (length before)
   outside_at apart [] [] given after h unmeant all = absurd h
   outside_at apart (letters ∷ head) [] (term.Var number) after h unmeant all = record {
     before = [];
@@ -139,13 +143,16 @@ module _ (numbers : Numbers) (body : List NamedAtom) (atoms : List QAtom) (are :
         whole = ap (λ texts. letters ∷ texts) more.whole;
         place_is = ap suc more.place_is;
         outside = more.outside;
-        first = All-cons (IsInBody body) letters more.before (body_to numbers letters number h.0 body atoms are (All-head (IsMeant atoms) (term.Var number) before all)) more.first;
+        first = All-cons (IsInBody body) letters more.before (body_to numbers letters number h.0 body atoms are
+            (All-head (IsMeant atoms) (term.Var number) before all)) more.first;
       }
   outside_at apart (letters ∷ head) (term.Ind number ∷ before) given after h unmeant all = absurd h
   outside_at apart (letters ∷ head) (term.Any ∷ before) given after h unmeant all = absurd h
 
 -- a head and a body make a text
-pub draft_is : (text rest : List ℕ) (old new : Vocab) (variables all : List (List ℕ)) (head : Head) (draft : Draft) → IsHeadRead text variables head rest → IsBodyRead rest (numbers_of variables old) (numbers_of all new) draft.body.items → KeepsNumbers (numbers_of variables old) (numbers_of all new) → draft.head.items ≡ head.terms.items → draft.repeated ≡ head.repeated → IsDraft text old new draft
+pub draft_is : (text rest : List ℕ) (old new : Vocab) (variables all : List (List ℕ)) (head : Head) (draft : Draft) → IsHeadRead text variables head rest
+    → IsBodyRead rest (numbers_of variables old) (numbers_of all new) draft.body.items → KeepsNumbers (numbers_of variables old) (numbers_of all new)
+    → draft.head.items ≡ head.terms.items → draft.repeated ≡ head.repeated → IsDraft text old new draft
 draft_is text rest old new variables all head draft h b kept terms repeated =
     let query : NamedQuery = record { head = h.named; body = b.named } in
     let start : numbers_of variables old ≡ numbers_of (with_texts [] h.named) old = ap (λ texts. numbers_of texts old) h.variables_are in
@@ -156,7 +163,8 @@ draft_is text rest old new variables all head draft h b kept terms repeated =
       text_is = record { rest = b.rest; reads = h.reads _ b.rest b.reads; ends = b.ends; body = b.some };
       repeats = subst (IsRepeatOf h.named) (sym repeated) h.repeats;
       names = ap (λ texts. numbers_of texts new) (sym same) ∙ whole;
-      head = subst (λ texts. AreHeadOf texts h.named draft.head.items) same (subst (AreHeadOf all h.named) (sym terms) (AreHeadOf-kept variables all h.named head.terms.items kept.variables h.terms));
+      head = subst (λ texts. AreHeadOf texts h.named draft.head.items) same
+          (subst (AreHeadOf all h.named) (sym terms) (AreHeadOf-kept variables all h.named head.terms.items kept.variables h.terms));
       body = subst (λ numbers. AreAtomsOf numbers b.named draft.body.items) whole b.meaning;
       counted = subst (λ items. length items ≤ length text) (sym terms) h.counted;
     }
@@ -170,10 +178,15 @@ draft_some text old new draft d = by d.query.body d.text_is.body (AreAtomsOf-len
     by (first ∷ named) some size = omega arith
 
 -- an accepted draft is the query of the text
-pub query_is : (text : List ℕ) (old new : Vocab) (draft : Draft) (given : Query) → IsDraft text old new draft → IsAccepted draft → given ≡ record { head = draft.head.items; body = draft.body.items } → IsQueryOf text old new given
+pub query_is : (text : List ℕ) (old new : Vocab) (draft : Draft) (given : Query) → IsDraft text old new draft → IsAccepted draft
+    → given ≡ record { head = draft.head.items; body = draft.body.items } → IsQueryOf text old new given
 query_is text old new draft given d accepted same = subst (IsQueryOf text old new) (sym same) (record {
   query = d.query;
-  text = record { text = d.text_is; few = let few = accepted.few in omega (arith, AreAtomsOf-length (with_query old d.query) d.query.body draft.body.items d.body) };
+  text = record {
+    text = d.text_is;
+    few = let few = accepted.few in
+        omega (arith, AreAtomsOf-length (with_query old d.query) d.query.body draft.body.items d.body);
+  };
   distinct = subst (IsRepeatOf d.query.head) accepted.distinct d.repeats;
   inside = head_inside (with_query old d.query) d.query.body draft.body.items d.body d.query.head draft.head.items d.head accepted.meant;
   concepts = ap (λ (numbers : Numbers). numbers.concepts) d.names;
@@ -184,19 +197,33 @@ query_is text old new draft given d accepted same = subst (IsQueryOf text old ne
 })
 
 -- a refused draft is a text of the grammar with what the refusal says
-pub draft_refused : (text : List ℕ) (old new : Vocab) (draft : Draft) (given : QueryRefusal) → IsDraft text old new draft → IsRefused draft given → Explains text given
-draft_refused text old new draft refusal.TooManyAtoms d h = (d.query, d.text_is, omega (arith, AreAtomsOf-length (with_query old d.query) d.query.body draft.body.items d.body))
-draft_refused text old new draft (refusal.RepeatedHead place) d h =
-    (d.query, record { text = d.text_is; few = omega (arith, AreAtomsOf-length (with_query old d.query) d.query.body draft.body.items d.body) }, subst (IsRepeatOf d.query.head) h.1 d.repeats)
+pub draft_refused : (text : List ℕ) (old new : Vocab) (draft : Draft) (given : QueryRefusal) → IsDraft text old new draft → IsRefused draft given
+    → Explains text given
+draft_refused text old new draft refusal.TooManyAtoms d h = (
+  d.query,
+  d.text_is,
+  omega (arith, AreAtomsOf-length (with_query old d.query) d.query.body draft.body.items d.body),
+)
+draft_refused text old new draft (refusal.RepeatedHead place) d h = (
+  d.query,
+  record { text = d.text_is; few = omega (arith, AreAtomsOf-length (with_query old d.query) d.query.body draft.body.items d.body) },
+  subst (IsRepeatOf d.query.head) h.1 d.repeats,
+)
 draft_refused text old new draft (refusal.HeadNotInBody place) d h =
     let split = h.2 in
-    let out = outside_at (with_query old d.query) d.query.body draft.body.items d.body (Apart-query old d.query) d.query.head split.before split.term split.after (subst (AreHeadOf (with_query old d.query).variables d.query.head) split.whole d.head) split.unmeant split.first in
-    (d.query, record { text = d.text_is; few = omega (arith, AreAtomsOf-length (with_query old d.query) d.query.body draft.body.items d.body) }, subst (IsRepeatOf d.query.head) h.1 d.repeats, subst (IsFirstOutside d.query) (sym split.place_is) out)
+    let out = outside_at (with_query old d.query) d.query.body draft.body.items d.body (Apart-query old d.query) d.query.head split.before split.term
+    split.after (subst (AreHeadOf (with_query old d.query).variables d.query.head) split.whole d.head) split.unmeant split.first in (
+      d.query,
+      record { text = d.text_is; few = omega (arith, AreAtomsOf-length (with_query old d.query) d.query.body draft.body.items d.body) },
+      subst (IsRepeatOf d.query.head) h.1 d.repeats,
+      subst (IsFirstOutside d.query) (sym split.place_is) out,
+    )
 draft_refused text old new draft (refusal.BadToken byte) d h = absurd h
 draft_refused text old new draft refusal.NoMemory d h = absurd h
 
 -- a halt explains its refusal
-pub halt_explains : (text : List ℕ) (given : Halt) (answer : QueryRefusal) → IsHalt at.Head text given → IsRefusalOf given (length text) answer → Explains text answer
+pub halt_explains : (text : List ℕ) (given : Halt) (answer : QueryRefusal) → IsHalt at.Head text given → IsRefusalOf given (length text) answer
+    → Explains text answer
 halt_explains text (halt.Fault fault) (refusal.BadToken byte) h r = record { left = fault.left; fault = h; place = r }
 halt_explains text halt.NoMemory refusal.NoMemory h r = tt
 halt_explains text (halt.Fault fault) refusal.TooManyAtoms h r = absurd r

@@ -1,5 +1,6 @@
 -- Bytes cut behind the first ones that pass a test.
-use Rattle.std.proofs.Common.{◌≡◌, ℕ, ◌<◌, ◌≤◌, ◌+◌, ◌-◌, Bool, true, false, cond, not, ◌&&◌, ltb, List, [], ◌∷◌, ◌++◌, length, take, drop, position, Some, None, refl, sym, ap, ◌∙◌, arith, length-drop, suc, ◌==◌}
+use Rattle.std.proofs.Common.{◌≡◌, ℕ, ◌<◌, ◌≤◌, ◌+◌, ◌-◌, Bool, true, false, cond, not, ◌&&◌, ltb, List, [], ◌∷◌, ◌++◌, length, take, drop, position, Some}
+use Rattle.std.proofs.Common.{None, refl, sym, ap, ◌∙◌, arith, length-drop, suc, ◌==◌}
 use Rattle.std.specs.List.{list_all, prefix_len, position_or_len}
 use Rattle.std.specs.Str.{IsAscii, IsUtf8}
 use Rattle.std.proofs.Math.Seq.{take-length}
@@ -37,7 +38,8 @@ module _ (p : ℕ → Bool) where
   run_front [] = record { whole = refl; all = refl; ends = refl }
   run_front (x ∷ xs) = by (p x) refl (run_front xs)
     where
-      by : (b : Bool) → p x ≡ b → IsRun p xs (take (prefix_len p xs) xs) (drop (prefix_len p xs) xs) → IsRun p (x ∷ xs) (take (cond (p x) (1 + prefix_len p xs) 0) (x ∷ xs)) (drop (cond (p x) (1 + prefix_len p xs) 0) (x ∷ xs))
+      by : (b : Bool) → p x ≡ b → IsRun p xs (take (prefix_len p xs) xs) (drop (prefix_len p xs) xs)
+          → IsRun p (x ∷ xs) (take (cond (p x) (1 + prefix_len p xs) 0) (x ∷ xs)) (drop (cond (p x) (1 + prefix_len p xs) 0) (x ∷ xs))
       by true e more = let one : 1 + prefix_len p xs ≡ suc (prefix_len p xs) = omega arith in rw (e, one) (run_cons x xs _ _ e more)
       by false e more = rw e (record { whole = refl; all = refl; ends = e })
 
@@ -86,7 +88,8 @@ module _ (p : ℕ → Bool) where
       rw (rest_is xs (length xs)) (rw all at front)
 
   -- bytes are cut so in one way
-  pub runs_once : (run after others rest : List ℕ) → list_all p run ≡ true → begins p after ≡ false → list_all p others ≡ true → begins p rest ≡ false → run ++ after ≡ others ++ rest → (run ≡ others) × (after ≡ rest)
+  pub runs_once : (run after others rest : List ℕ) → list_all p run ≡ true → begins p after ≡ false → list_all p others ≡ true → begins p rest ≡ false
+      → run ++ after ≡ others ++ rest → (run ≡ others) × (after ≡ rest)
   runs_once [] after [] rest h k i j e = (refl, e)
   runs_once [] [] (o ∷ others) rest h k i j e = cc
   runs_once [] (b ∷ after) (o ∷ others) rest h k i j e =

@@ -34,7 +34,8 @@ stands_shorter token text after stands =
 -- tokens take as many bytes as they are
 pub reads_shorter : (tokens : List Token) (text rest : List ℕ) → Reads tokens text rest → length rest + length tokens ≤ length text
 reads_shorter [] text rest e = let size = ap length e in omega arith
-reads_shorter (token ∷ tokens) text rest (after, stands, parted, reads) = omega (arith, stands_shorter token text after stands, reads_shorter tokens after rest reads)
+reads_shorter (token ∷ tokens) text rest (after, stands, parted, reads) =
+    omega (arith, stands_shorter token text after stands, reads_shorter tokens after rest reads)
 
 -- a fault is in the text
 left_within : (place : Place) (text : List ℕ) (left : ℕ) → IsLeft place text left → left ≤ length text
@@ -44,7 +45,8 @@ left_within place text left (inr (inr (ends, breaks, e))) = omega arith
 
 behind_within : (read : List Token) (place : Place) (text : List ℕ) (left : ℕ) → FaultBehind read place text left → left ≤ length text
 behind_within [] place text left stuck = omega (arith, left_within place (after_gap text) left stuck.left_is, after_gap_le text)
-behind_within (token ∷ read) place text left (may, (after, stands, fault)) = omega (arith, stands_shorter token text after stands, behind_within read (place_behind place token after) after left fault)
+behind_within (token ∷ read) place text left (may, (after, stands, fault)) =
+    omega (arith, stands_shorter token text after stands, behind_within read (place_behind place token after) after left fault)
 
 pub fault_within : (place : Place) (text : List ℕ) (left : ℕ) → FaultFrom place text left → left ≤ length text
 fault_within place text left fault = behind_within fault.read place text left fault.fault

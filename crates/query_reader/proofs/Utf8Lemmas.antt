@@ -1,5 +1,6 @@
 -- What a constant means is UTF-8, where it is so written.
-use Rattle.std.proofs.Common.{◌≡◌, ◌⊎◌, inl, inr, ℕ, suc, ◌<◌, true, false, List, [], ◌∷◌, ◌++◌, length, get_or, refl, sym, ap, ◌∙◌, arith, append-nil, subst, eqb}
+use Rattle.std.proofs.Common.{◌≡◌, ◌⊎◌, inl, inr, ℕ, suc, ◌<◌, true, false, List, [], ◌∷◌, ◌++◌, length, get_or, refl, sym, ap, ◌∙◌, arith, append-nil, subst}
+use Rattle.std.proofs.Common.{eqb}
 use Rattle.std.specs.Str.{IsUtf8}
 use Rattle.std.proofs.lemmas.Str.{IsUtf8-nil, IsUtf8-append, encode_ascii, inside_one, char_from_byte}
 use lib.Utf8.{scalar, scalars, encodes, encode}
@@ -17,12 +18,14 @@ written_other : (byte : ℕ) → eqb byte 39 ≡ false → byte_inside byte ≡ 
 written_other byte q = rw q refl
 
 -- bytes without a quote are written as they are
-strip : (front rest meant : List ℕ) → ((k : ℕ) → k < length front → get_or front k 0 ≡ 39 → ⊥) → front ++ rest ≡ doubled meant → (more : List ℕ) × (meant ≡ front ++ more) × (rest ≡ doubled more)
+strip : (front rest meant : List ℕ) → ((k : ℕ) → k < length front → get_or front k 0 ≡ 39 → ⊥) → front ++ rest ≡ doubled meant → (more : List ℕ)
+    × (meant ≡ front ++ more) × (rest ≡ doubled more)
 strip [] rest meant none e = (meant, refl, e)
 strip (b ∷ front) rest [] none e = cc e
 strip (b ∷ front) rest (m ∷ meant) none e = by (quote_or_not m) (strip front rest meant (λ k lt. none (suc k) (omega arith)))
   where
-    by : (m ≡ 39) ⊎ (eqb m 39 ≡ false) → (front ++ rest ≡ doubled meant → (more : List ℕ) × (meant ≡ front ++ more) × (rest ≡ doubled more)) → (more : List ℕ) × (m ∷ meant ≡ (b ∷ front) ++ more) × (rest ≡ doubled more)
+    by : (m ≡ 39) ⊎ (eqb m 39 ≡ false) → (front ++ rest ≡ doubled meant → (more : List ℕ) × (meant ≡ front ++ more) × (rest ≡ doubled more)) → (more : List ℕ)
+        × (m ∷ meant ≡ (b ∷ front) ++ more) × (rest ≡ doubled more)
     by (inl q) ih =
         let k : b ∷ (front ++ rest) ≡ 39 ∷ 39 ∷ doubled meant = e ∙ ap (λ bytes. bytes ++ doubled meant) (written_quote m q) in
         let same : b ≡ 39 = cc in
@@ -92,7 +95,8 @@ written_some m meant e = by (quote_or_not m)
     by (inr q) = let k : [] ≡ m ∷ doubled meant = e ∙ ap (λ bytes. bytes ++ doubled meant) (written_other m q) in cc k
 
 -- one character more, where the next ones and those after the next give their texts
-step : (c : ℕ) (cs meant : List ℕ) → scalars (c ∷ cs) ≡ true → Gives cs → ((d : ℕ) (ds : List ℕ) → cs ≡ d ∷ ds → Gives ds) → encodes (c ∷ cs) ≡ doubled meant → IsUtf8 meant
+step : (c : ℕ) (cs meant : List ℕ) → scalars (c ∷ cs) ≡ true → Gives cs → ((d : ℕ) (ds : List ℕ) → cs ≡ d ∷ ds → Gives ds) → encodes (c ∷ cs) ≡ doubled meant
+    → IsUtf8 meant
 step c cs [] h ih later e = IsUtf8-nil
 step c cs (m ∷ meant) h ih later e = by (quote_or_not c) cs refl
   where

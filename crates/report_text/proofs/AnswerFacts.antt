@@ -12,7 +12,8 @@ use Rattle.report_text.specs.Fields.{longs_at, ids_at, texts_at}
 use Rattle.report_text.specs.AnswerLine.{IsWellFormedAnswer, verdict_word, verdict_of, verdict_at, answer_data, answer_at}
 use Rattle.report_text.specs.Lines.{IsWellFormed}
 use Rattle.report_text.proofs.Plain.{IsPlain}
-use Rattle.report_text.proofs.FieldFacts.{items_depth-numbers, items_depth-texts, ArePlain-longs, ArePlain-ids, ArePlain-texts, each_of-longs, each_of-ids, each_of-texts, All-longs_at, All-ids_at, All-texts_at}
+use Rattle.report_text.proofs.FieldFacts.{items_depth-numbers, items_depth-texts, ArePlain-longs, ArePlain-ids, ArePlain-texts, each_of-longs, each_of-ids}
+use Rattle.report_text.proofs.FieldFacts.{each_of-texts, All-longs_at, All-ids_at, All-texts_at}
 
 -- a verdict's word is UTF-8
 IsUtf8-verdict_word : (verdict : Verdict) → IsUtf8 (verdict_word verdict)
@@ -55,14 +56,22 @@ IsPlain-answer_data brave ar iar cores names tuple h = (
 )
 
 -- an answer's JSON is shallow
-pub depth-answer_data : (brave ar iar : Verdict) (cores : List ℕ) (names : List (List ℕ)) (tuple : List ℕ) → depth (answer_data brave ar iar cores names tuple) ≤ max_depth
+pub depth-answer_data : (brave ar iar : Verdict) (cores : List ℕ) (names : List (List ℕ)) (tuple : List ℕ)
+    → depth (answer_data brave ar iar cores names tuple) ≤ max_depth
 depth-answer_data brave ar iar cores names tuple = omega (arith, items_depth-numbers cores, items_depth-texts names, items_depth-numbers tuple)
 
 -- a well-formed answer's JSON gives back the answer
 pub answer_at-answer_data : (brave ar iar : Verdict) (cores : List ℕ) (names : List (List ℕ)) (tuple : List ℕ) → IsWellFormedAnswer cores names tuple
     → answer_at (answer_data brave ar iar cores names tuple) ≡ Some (line.Answer brave ar iar cores names tuple)
 answer_at-answer_data brave ar iar cores names tuple h =
-    rw (verdict_of-word brave, verdict_of-word ar, verdict_of-word iar, each_of-longs cores h.cores_fit, each_of-texts names h.names_are_texts, each_of-ids tuple h.tuple_fits) refl
+    rw (
+      verdict_of-word brave,
+      verdict_of-word ar,
+      verdict_of-word iar,
+      each_of-longs cores h.cores_fit,
+      each_of-texts names h.names_are_texts,
+      each_of-ids tuple h.tuple_fits,
+    ) refl
 
 -- an answer that is found is well formed
 pub IsWellFormed-answer_at : (d : Data) (found : Line) → answer_at d ≡ Some found → IsWellFormed found

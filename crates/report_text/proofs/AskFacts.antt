@@ -10,10 +10,12 @@ use Rattle.report_text.specs.Fields.{id_at, ids_at, id_lists_at}
 use Rattle.report_text.specs.AskLine.{IsWellFormedAsk, ask_data, ask_at}
 use Rattle.report_text.specs.Lines.{IsWellFormed}
 use Rattle.report_text.proofs.Plain.{IsPlain}
-use Rattle.report_text.proofs.FieldFacts.{items_depth-numbers, items_depth-lists, ArePlain-ids, ArePlain-lists, if_below-lt, each_of-ids, each_of-lists, below-id_at, All-ids_at, All-id_lists_at}
+use Rattle.report_text.proofs.FieldFacts.{items_depth-numbers, items_depth-lists, ArePlain-ids, ArePlain-lists, if_below-lt, each_of-ids, each_of-lists}
+use Rattle.report_text.proofs.FieldFacts.{below-id_at, All-ids_at, All-id_lists_at}
 
 -- a well-formed candidate's JSON is plain
-pub IsPlain-ask_data : (candidate : ℕ) (tuple : List ℕ) (causes : List (List ℕ)) (members : List ℕ) → IsWellFormedAsk candidate tuple causes members → IsPlain (ask_data candidate tuple causes members)
+pub IsPlain-ask_data : (candidate : ℕ) (tuple : List ℕ) (causes : List (List ℕ)) (members : List ℕ) → IsWellFormedAsk candidate tuple causes members
+    → IsPlain (ask_data candidate tuple causes members)
 IsPlain-ask_data candidate tuple causes members h = (
   refl,
   (
@@ -39,7 +41,8 @@ depth-ask_data candidate tuple causes members = omega (arith, items_depth-lists 
 pub ask_at-ask_data : (candidate : ℕ) (tuple : List ℕ) (causes : List (List ℕ)) (members : List ℕ) → IsWellFormedAsk candidate tuple causes members
     → ask_at (ask_data candidate tuple causes members) ≡ Some (line.Ask candidate tuple causes members)
 ask_at-ask_data candidate tuple causes members h =
-    rw (if_below-lt (2 ^ 32) candidate h.candidate_fits, each_of-ids tuple h.tuple_fits, each_of-lists causes h.causes_fit, each_of-ids members h.members_fit) refl
+    rw (if_below-lt (2 ^ 32) candidate h.candidate_fits, each_of-ids tuple h.tuple_fits, each_of-lists causes h.causes_fit, each_of-ids members h.members_fit)
+    refl
 
 -- a candidate that is found is well formed
 pub IsWellFormed-ask_at : (d : Data) (found : Line) → ask_at d ≡ Some found → IsWellFormed found

@@ -12,7 +12,8 @@ use Rattle.cq_terms.specs.declared.query.Term.TheVariants as term
 use Rattle.cq_terms.specs.declared.query.QAtom.{QAtom}
 use Rattle.cq_terms.specs.declared.query.QAtom.TheVariants as atom
 use Rattle.report_text.specs.Fields.{is_null, id_of, each_of, id_in, word_in, items_at}
-use Rattle.report_text.specs.Atoms.{IsTermInRange, IsAtomInRange, term_data, atom_data, term_of, term_in, concept_of, link_of, atom_of_kind, atom_of, terms_at, atoms_at}
+use Rattle.report_text.specs.Atoms.{IsTermInRange, IsAtomInRange, term_data, atom_data, term_of, term_in, concept_of, link_of, atom_of_kind, atom_of}
+use Rattle.report_text.specs.Atoms.{terms_at, atoms_at}
 use Rattle.report_text.proofs.Plain.{IsPlain, ArePlain}
 use Rattle.report_text.proofs.FieldFacts.{items_depth-each, ArePlain-each, if_below-lt, each_of-each, below-id_of, below-id_in, All-each_of}
 
@@ -38,7 +39,8 @@ IsPlain-term_data term.Any h = tt
 -- and so is an atom
 IsPlain-atom_data : (a : QAtom) → IsAtomInRange a → IsPlain (atom_data a)
 IsPlain-atom_data (atom.Concept p t) h = let small : p < 2 ^ 32 = h.0 in (IsUtf8-are_ascii _ refl, (omega arith, (IsPlain-term_data t h.1, tt)))
-IsPlain-atom_data (atom.Link p s t) h = let small : p < 2 ^ 32 = h.0 in (IsUtf8-are_ascii _ refl, (omega arith, (IsPlain-term_data s h.1, (IsPlain-term_data t h.2, tt))))
+IsPlain-atom_data (atom.Link p s t) h = let small : p < 2 ^ 32 = h.0 in
+    (IsUtf8-are_ascii _ refl, (omega arith, (IsPlain-term_data s h.1, (IsPlain-term_data t h.2, tt))))
 
 -- terms nest once, in a list too
 pub items_depth-terms : (ts : List Term) → items_depth (items_of (map term_data ts)) ≤ 1
@@ -83,10 +85,13 @@ each_of-atoms atoms h = each_of-each IsAtomInRange atom_data atom_of atom_of-ato
 IsTermInRange-term_of : (d : Data) (t : Term) → term_of d ≡ Some t → IsTermInRange t
 IsTermInRange-term_of d t e = by (is_null d) (is_some (as_array d)) e
   where
-    by : (x y : Bool) → (if x then Some term.Any else if y then option_and_then (λ c. Some (term.Ind c)) (id_in 0 d) else option_and_then (λ l. Some (term.Var l)) (id_of d)) ≡ Some t → IsTermInRange t
+    by : (x y : Bool) → (if x then Some term.Any else if y then option_and_then (λ c. Some (term.Ind c)) (id_in 0 d) else option_and_then
+        (λ l. Some (term.Var l)) (id_of d)) ≡ Some t → IsTermInRange t
     by true y e = let same : term.Any ≡ t = cc e in rw (← same) tt
-    by false true e = option_and_then_some (λ c. Some (term.Ind c)) (id_in 0 d) t e (λ c c_is is. let same : term.Ind c ≡ t = cc is in rw (← same) (below-id_in 0 d c c_is))
-    by false false e = option_and_then_some (λ l. Some (term.Var l)) (id_of d) t e (λ l l_is is. let same : term.Var l ≡ t = cc is in rw (← same) (below-id_of d l l_is))
+    by false true e = option_and_then_some (λ c. Some (term.Ind c)) (id_in 0 d) t e
+        (λ c c_is is. let same : term.Ind c ≡ t = cc is in rw (← same) (below-id_in 0 d c c_is))
+    by false false e = option_and_then_some (λ l. Some (term.Var l)) (id_of d) t e
+        (λ l l_is is. let same : term.Var l ≡ t = cc is in rw (← same) (below-id_of d l l_is))
 
 -- the same at a place
 IsTermInRange-term_in : (place : ℕ) (d : Data) (t : Term) → term_in place d ≡ Some t → IsTermInRange t
@@ -111,7 +116,8 @@ IsAtomInRange-link_of d a e =
 
 -- an atom that is read is in its range
 IsAtomInRange-atom_of : (d : Data) (a : QAtom) → atom_of d ≡ Some a → IsAtomInRange a
-IsAtomInRange-atom_of d a e = option_and_then_some (λ word. atom_of_kind word d) (word_in 0 d) a e (λ word word_is e. by (bytes_eq word (codes "c")) (bytes_eq word (codes "r")) e)
+IsAtomInRange-atom_of d a e = option_and_then_some (λ word. atom_of_kind word d) (word_in 0 d) a e
+    (λ word word_is e. by (bytes_eq word (codes "c")) (bytes_eq word (codes "r")) e)
   where
     by : (x y : Bool) → (if x then concept_of d else if y then link_of d else None) ≡ Some a → IsAtomInRange a
     by true y e = IsAtomInRange-concept_of d a e
@@ -120,8 +126,10 @@ IsAtomInRange-atom_of d a e = option_and_then_some (λ word. atom_of_kind word d
 
 -- the terms under a key are in their range
 pub All-terms_at : (key : List ℕ) (d : Data) (ts : List Term) → terms_at key d ≡ Some ts → All IsTermInRange ts
-All-terms_at key d ts e = option_and_then_some (each_of term_of) (items_at key d) ts e (λ items from is. All-each_of IsTermInRange term_of IsTermInRange-term_of items ts is)
+All-terms_at key d ts e = option_and_then_some (each_of term_of) (items_at key d) ts e
+    (λ items from is. All-each_of IsTermInRange term_of IsTermInRange-term_of items ts is)
 
 -- and so are the atoms
 pub All-atoms_at : (key : List ℕ) (d : Data) (atoms : List QAtom) → atoms_at key d ≡ Some atoms → All IsAtomInRange atoms
-All-atoms_at key d atoms e = option_and_then_some (each_of atom_of) (items_at key d) atoms e (λ items from is. All-each_of IsAtomInRange atom_of IsAtomInRange-atom_of items atoms is)
+All-atoms_at key d atoms e = option_and_then_some (each_of atom_of) (items_at key d) atoms e
+    (λ items from is. All-each_of IsAtomInRange atom_of IsAtomInRange-atom_of items atoms is)

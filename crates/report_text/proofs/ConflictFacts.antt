@@ -34,7 +34,15 @@ IsPlain-conflict_data facts rule place h = (
   (
     IsUtf8-are_ascii _ refl,
     ArePlain-ids facts h.facts_fit,
-    (IsUtf8-are_ascii _ refl, IsUtf8-are_ascii _ refl, (IsUtf8-are_ascii _ refl, omega (arith, h.place_fits), (IsUtf8-are_ascii _ refl, omega (arith, h.rule_fits), tt))),
+    (
+      IsUtf8-are_ascii _ refl,
+      IsUtf8-are_ascii _ refl,
+      (
+        IsUtf8-are_ascii _ refl,
+        omega (arith, h.place_fits),
+        (IsUtf8-are_ascii _ refl, omega (arith, h.rule_fits), tt),
+      ),
+    ),
   ),
 )
 
@@ -43,9 +51,15 @@ pub depth-conflict_data : (facts : List ℕ) (rule place : ℕ) → depth (confl
 depth-conflict_data facts rule place = omega (arith, items_depth-numbers facts)
 
 -- a well-formed conflict's JSON gives back the conflict
-pub conflict_at-conflict_data : (facts : List ℕ) (rule place : ℕ) → IsWellFormedConflict facts rule place → conflict_at (conflict_data facts rule place) ≡ Some (line.Conflict facts rule place)
+pub conflict_at-conflict_data : (facts : List ℕ) (rule place : ℕ) → IsWellFormedConflict facts rule place
+    → conflict_at (conflict_data facts rule place) ≡ Some (line.Conflict facts rule place)
 conflict_at-conflict_data facts rule place h =
-    rw (if_below-lt (2 ^ 32) rule h.rule_fits, if_below-lt (2 ^ 32) place h.place_fits, each_of-ids facts h.facts_fit, is_one_or_two-true (length facts) h.one_or_two) refl
+    rw (
+      if_below-lt (2 ^ 32) rule h.rule_fits,
+      if_below-lt (2 ^ 32) place h.place_fits,
+      each_of-ids facts h.facts_fit,
+      is_one_or_two-true (length facts) h.one_or_two,
+    ) refl
 
 -- a conflict that is found is well formed
 pub IsWellFormed-conflict_at : (d : Data) (found : Line) → conflict_at d ≡ Some found → IsWellFormed found
@@ -55,7 +69,8 @@ IsWellFormed-conflict_at d found e =
     option_and_then_some _ (ids_at (codes "facts") d) found e (λ facts facts_is e.
     by rule rule_is place place_is facts facts_is (is_one_or_two (length facts)) refl e)))
   where
-    by : (rule : ℕ) → id_at (codes "of") d ≡ Some rule → (place : ℕ) → id_at (codes "member") d ≡ Some place → (facts : List ℕ) → ids_at (codes "facts") d ≡ Some facts
+    by : (rule : ℕ) → id_at (codes "of") d ≡ Some rule → (place : ℕ) → id_at (codes "member") d ≡ Some place → (facts : List ℕ)
+        → ids_at (codes "facts") d ≡ Some facts
         → (b : Bool) → is_one_or_two (length facts) ≡ b → (if b then Some (line.Conflict facts rule place) else None) ≡ Some found → IsWellFormed found
     by rule rule_is place place_is facts facts_is true h e =
         let same : line.Conflict facts rule place ≡ found = cc e in

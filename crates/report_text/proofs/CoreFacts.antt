@@ -28,7 +28,8 @@ pub depth-core_data : (number : ℕ) (kept dropped : List ℕ) → depth (core_d
 depth-core_data number kept dropped = omega (arith, items_depth-numbers dropped, items_depth-numbers kept)
 
 -- a well-formed core's JSON gives back the core
-pub core_at-core_data : (number : ℕ) (kept dropped : List ℕ) → IsWellFormedCore number kept dropped → core_at (core_data number kept dropped) ≡ Some (line.Core number kept dropped)
+pub core_at-core_data : (number : ℕ) (kept dropped : List ℕ) → IsWellFormedCore number kept dropped
+    → core_at (core_data number kept dropped) ≡ Some (line.Core number kept dropped)
 core_at-core_data number kept dropped h = rw (if_below-lt (2 ^ 64) number h.number_fits, each_of-ids kept h.kept_fit, each_of-ids dropped h.dropped_fit) refl
 
 -- a core that is found is well formed

@@ -16,11 +16,13 @@ use Rattle.report_text.specs.declared.line.Origin.{Origin}
 use Rattle.report_text.specs.declared.line.Origin.TheVariants as origin
 use Rattle.report_text.specs.Fields.{is_null, id_of, id_in, word_in}
 use Rattle.report_text.specs.Atoms.{IsTermInRange, IsAtomInRange, terms_at, atoms_at}
-use Rattle.report_text.specs.CqLine.{IsOriginInRange, IsMoveInRange, IsWellFormedCq, origin_data, move_data, move_data_of, parent_data, cq_data, origin_of, origin_at, axiom_move_of, reduce_move_of, move_of_kind, move_of, step_of, step_at, query_at, cq_at}
+use Rattle.report_text.specs.CqLine.{IsOriginInRange, IsMoveInRange, IsWellFormedCq, origin_data, move_data, move_data_of, parent_data, cq_data, origin_of}
+use Rattle.report_text.specs.CqLine.{origin_at, axiom_move_of, reduce_move_of, move_of_kind, move_of, step_of, step_at, query_at, cq_at}
 use Rattle.report_text.specs.Lines.{IsWellFormed}
 use Rattle.report_text.proofs.Plain.{IsPlain}
 use Rattle.report_text.proofs.FieldFacts.{if_below-lt, below-id_of, below-id_in}
-use Rattle.report_text.proofs.AtomFacts.{items_depth-terms, items_depth-atoms, ArePlain-terms, ArePlain-atoms, each_of-terms, each_of-atoms, All-terms_at, All-atoms_at}
+use Rattle.report_text.proofs.AtomFacts.{items_depth-terms, items_depth-atoms, ArePlain-terms, ArePlain-atoms, each_of-terms, each_of-atoms, All-terms_at}
+use Rattle.report_text.proofs.AtomFacts.{All-atoms_at}
 use Rattle.cq_terms.proofs.SafeFacts.{if_safe-query, IsSafe-if_safe}
 
 -- the numbers of the step are in their range
@@ -49,8 +51,10 @@ IsPlain-origin_data origin.Query h = IsUtf8-are_ascii _ refl
 IsPlain-origin_data (origin.Negative rule) h = let small : rule < 2 ^ 32 = h in omega arith
 
 IsPlain-move_data : (made_by : Move) → IsMoveInRange made_by → IsPlain (move_data made_by)
-IsPlain-move_data (step.Axiom place rule) h = let small : place < 2 ^ 32 = h.0 in let also : rule < 2 ^ 32 = h.1 in (IsUtf8-are_ascii _ refl, (omega arith, (omega arith, tt)))
-IsPlain-move_data (step.Reduce first second) h = let small : first < 2 ^ 32 = h.0 in let also : second < 2 ^ 32 = h.1 in (IsUtf8-are_ascii _ refl, (omega arith, (omega arith, tt)))
+IsPlain-move_data (step.Axiom place rule) h = let small : place < 2 ^ 32 = h.0 in let also : rule < 2 ^ 32 = h.1 in
+    (IsUtf8-are_ascii _ refl, (omega arith, (omega arith, tt)))
+IsPlain-move_data (step.Reduce first second) h = let small : first < 2 ^ 32 = h.0 in let also : second < 2 ^ 32 = h.1 in
+    (IsUtf8-are_ascii _ refl, (omega arith, (omega arith, tt)))
 
 IsPlain-move_data_of : (made_by : Option (ℕ × Move)) → IsStepInRange made_by → IsPlain (move_data_of made_by)
 IsPlain-move_data_of None h = tt
@@ -87,7 +91,14 @@ IsPlain-cq_data of query made_by h = (
 
 -- a query's JSON is shallow
 pub depth-cq_data : (of : Origin) (query : Query) (made_by : Option (ℕ × Move)) → depth (cq_data of query made_by) ≤ max_depth
-depth-cq_data of query made_by = omega (arith, items_depth-atoms query.body, items_depth-terms query.head, depth-move_data_of made_by, depth-origin_data of, depth-parent_data made_by)
+depth-cq_data of query made_by = omega (
+  arith,
+  items_depth-atoms query.body,
+  items_depth-terms query.head,
+  depth-move_data_of made_by,
+  depth-origin_data of,
+  depth-parent_data made_by,
+)
 
 -- READ BACK
 
@@ -107,7 +118,8 @@ step_of-data None h = refl
 step_of-data (Some s) h = rw (if_below-lt (2 ^ 32) s.0 h.0, move_of-move_data s.1 h.1) refl
 
 -- a well-formed query's JSON gives back the query
-pub cq_at-cq_data : (of : Origin) (query : Query) (made_by : Option (ℕ × Move)) → IsWellFormedCq of query made_by → cq_at (cq_data of query made_by) ≡ Some (line.Cq of query made_by)
+pub cq_at-cq_data : (of : Origin) (query : Query) (made_by : Option (ℕ × Move)) → IsWellFormedCq of query made_by
+    → cq_at (cq_data of query made_by) ≡ Some (line.Cq of query made_by)
 cq_at-cq_data of query made_by h =
     rw (
       origin_of-origin_data of h.origin_fits,
@@ -125,7 +137,8 @@ IsOriginInRange-origin_of d of e = by (is_some (as_str d)) e
   where
     by : (b : Bool) → (if b then Some origin.Query else option_and_then (λ rule. Some (origin.Negative rule)) (id_of d)) ≡ Some of → IsOriginInRange of
     by true e = let same : origin.Query ≡ of = cc e in rw (← same) tt
-    by false e = option_and_then_some (λ rule. Some (origin.Negative rule)) (id_of d) of e (λ rule rule_is is. let same : origin.Negative rule ≡ of = cc is in rw (← same) (below-id_of d rule rule_is))
+    by false e = option_and_then_some (λ rule. Some (origin.Negative rule)) (id_of d) of e
+        (λ rule rule_is is. let same : origin.Negative rule ≡ of = cc is in rw (← same) (below-id_of d rule rule_is))
 
 IsOriginInRange-origin_at : (d : Data) (of : Origin) → origin_at d ≡ Some of → IsOriginInRange of
 IsOriginInRange-origin_at d of e = option_and_then_some origin_of (get (codes "of") d) of e (λ found from is. IsOriginInRange-origin_of found of is)
@@ -147,7 +160,8 @@ IsMoveInRange-reduce_move_of d made_by e =
 
 IsMoveInRange-move_of : (d : Data) (made_by : Move) → move_of d ≡ Some made_by → IsMoveInRange made_by
 IsMoveInRange-move_of d made_by e =
-    option_and_then_some (λ word. move_of_kind word d) (word_in 0 d) made_by e (λ word word_is e. by (bytes_eq word (codes "axiom")) (bytes_eq word (codes "reduce")) e)
+    option_and_then_some (λ word. move_of_kind word d) (word_in 0 d) made_by e
+    (λ word word_is e. by (bytes_eq word (codes "axiom")) (bytes_eq word (codes "reduce")) e)
   where
     by : (x y : Bool) → (if x then axiom_move_of d else if y then reduce_move_of d else None) ≡ Some made_by → IsMoveInRange made_by
     by true y e = IsMoveInRange-axiom_move_of d made_by e
@@ -158,7 +172,8 @@ IsMoveInRange-move_of d made_by e =
 IsStepInRange-step_of : (parent moved : Data) (made_by : Option (ℕ × Move)) → step_of parent moved ≡ Some made_by → IsStepInRange made_by
 IsStepInRange-step_of parent moved made_by e = by (is_null parent) e
   where
-    by : (b : Bool) → (if b then Some None else option_and_then (λ number. option_and_then (λ s. Some (Some (number, s))) (move_of moved)) (id_of parent)) ≡ Some made_by → IsStepInRange made_by
+    by : (b : Bool) → (if b then Some None else option_and_then (λ number. option_and_then (λ s. Some (Some (number, s))) (move_of moved)) (id_of parent))
+        ≡ Some made_by → IsStepInRange made_by
     by true e = let same : None ≡ made_by = cc e in rw (← same) tt
     by false e =
         option_and_then_some _ (id_of parent) made_by e (λ number number_is e.

@@ -49,7 +49,11 @@ true-has_its_core Spent None h = ((λ some. cc some), (λ model. cc model))
 pub IsPlain-done_data : (how : How) (core : Option ℕ) → IsWellFormedDone how core → IsPlain (done_data how core)
 IsPlain-done_data how core h = (
   refl,
-  (IsUtf8-are_ascii _ refl, IsPlain-long_or_null core h.core_fits, (IsUtf8-are_ascii _ refl, IsUtf8-how_word how, (IsUtf8-are_ascii _ refl, IsUtf8-are_ascii _ refl, tt))),
+  (
+    IsUtf8-are_ascii _ refl,
+    IsPlain-long_or_null core h.core_fits,
+    (IsUtf8-are_ascii _ refl, IsUtf8-how_word how, (IsUtf8-are_ascii _ refl, IsUtf8-are_ascii _ refl, tt)),
+  ),
 )
 
 -- the JSON of an end of a try is shallow
@@ -67,7 +71,8 @@ IsWellFormed-done_at d found e =
     option_and_then_some _ (long_or_null_at (codes "core") d) found e (λ core core_is e.
     by how core core_is (has_its_core how core) refl e))
   where
-    by : (how : How) (core : Option ℕ) → long_or_null_at (codes "core") d ≡ Some core → (b : Bool) → has_its_core how core ≡ b → (if b then Some (line.Done how core) else None) ≡ Some found
+    by : (how : How) (core : Option ℕ) → long_or_null_at (codes "core") d ≡ Some core → (b : Bool) → has_its_core how core ≡ b
+        → (if b then Some (line.Done how core) else None) ≡ Some found
         → IsWellFormed found
     by how core core_is true h e =
         let same : line.Done how core ≡ found = cc e in

@@ -1,5 +1,6 @@
 -- Numbers, words and lists as JSON: they are plain and shallow, and they read back.
-use Rattle.std.proofs.Common.{◌≡◌, ℕ, ◌<◌, ◌≤◌, ◌^◌, Bool, false, true, List, [], ◌∷◌, Option, Some, None, option_map, option_and_then, map, refl, ap, ◌∙◌, arith, rules, IsUtf8, All, IfSome, string_bytes, Global, String as Text}
+use Rattle.std.proofs.Common.{◌≡◌, ℕ, ◌<◌, ◌≤◌, ◌^◌, Bool, false, true, List, [], ◌∷◌, Option, Some, None, option_map, option_and_then, map, refl, ap, ◌∙◌}
+use Rattle.std.proofs.Common.{arith, rules, IsUtf8, All, IfSome, string_bytes, Global, String as Text}
 use Rattle.std.specs.Prelude.{if◌then◌else◌}
 use Rattle.std.proofs.lemmas.Bool.Decides.{nat_tests}
 use Rattle.std.proofs.lemmas.List.Elements.{All-nil, All-cons, All-head, All-tail}
@@ -11,7 +12,8 @@ use Rattle.serde_json.specs.Find.{get, at, as_number, as_u64, as_str, as_array}
 use Rattle.serde_json.specs.View.{items_of, view}
 use Rattle.serde_json.specs.declared.value.Value as value
 use Rattle.serde_json.specs.declared.value.Value.{Value, the_lemmas}
-use Rattle.report_text.specs.Fields.{number_data, numbers_data, long_or_null_data, if_below, if_text, is_null, long_of, long_or_null, id_of, ids_of, text_in, each_of, id_in, long_at, long_or_null_at, id_at, items_at, longs_at, ids_at, id_lists_at, texts_at}
+use Rattle.report_text.specs.Fields.{number_data, numbers_data, long_or_null_data, if_below, if_text, is_null, long_of, long_or_null, id_of, ids_of, text_in}
+use Rattle.report_text.specs.Fields.{each_of, id_in, long_at, long_or_null_at, id_at, items_at, longs_at, ids_at, id_lists_at, texts_at}
 use Rattle.report_text.proofs.Plain.{IsPlain, ArePlain}
 
 -- PRINTED
@@ -79,18 +81,21 @@ if_below-lt bound n h = grind (arith, nat_tests)
 pub each_of-longs : (ns : List ℕ) → All (λ n. n < 2 ^ 64) ns → each_of long_of (items_of (map number_data ns)) ≡ Some ns
 each_of-longs [] h = refl
 each_of-longs (n ∷ ns) h =
-    ap (option_and_then (λ x. option_map (λ xs. x ∷ xs) (each_of long_of (items_of (map number_data ns))))) (if_below-lt (2 ^ 64) n (All-head (λ n. n < 2 ^ 64) n ns h))
+    ap (option_and_then (λ x. option_map (λ xs. x ∷ xs) (each_of long_of (items_of (map number_data ns)))))
+    (if_below-lt (2 ^ 64) n (All-head (λ n. n < 2 ^ 64) n ns h))
     ∙ ap (option_map (λ xs. n ∷ xs)) (each_of-longs ns (All-tail (λ n. n < 2 ^ 64) n ns h))
 
 -- numbers below 2^32 read back
 pub each_of-ids : (ns : List ℕ) → All (λ n. n < 2 ^ 32) ns → each_of id_of (items_of (map number_data ns)) ≡ Some ns
 each_of-ids [] h = refl
 each_of-ids (n ∷ ns) h =
-    ap (option_and_then (λ x. option_map (λ xs. x ∷ xs) (each_of id_of (items_of (map number_data ns))))) (if_below-lt (2 ^ 32) n (All-head (λ n. n < 2 ^ 32) n ns h))
+    ap (option_and_then (λ x. option_map (λ xs. x ∷ xs) (each_of id_of (items_of (map number_data ns)))))
+    (if_below-lt (2 ^ 32) n (All-head (λ n. n < 2 ^ 32) n ns h))
     ∙ ap (option_map (λ xs. n ∷ xs)) (each_of-ids ns (All-tail (λ n. n < 2 ^ 32) n ns h))
 
 -- items that read back are read back
-pub each_of-each : {X : Type 0} (P : X → Type 0) (f : X → Data) (g : Data → Option X) → ((x : X) → P x → g (f x) ≡ Some x) → (xs : List X) → All P xs → each_of g (items_of (map f xs)) ≡ Some xs
+pub each_of-each : {X : Type 0} (P : X → Type 0) (f : X → Data) (g : Data → Option X) → ((x : X) → P x → g (f x) ≡ Some x) → (xs : List X) → All P xs
+    → each_of g (items_of (map f xs)) ≡ Some xs
 each_of-each P f g back [] h = refl
 each_of-each P f g back (x ∷ xs) h = rw (back x (All-head P x xs h), each_of-each P f g back xs (All-tail P x xs h)) refl
 
@@ -173,7 +178,8 @@ pub IsUtf8-text_in : (d : Data) (t : List ℕ) → text_in d ≡ Some t → IsUt
 IsUtf8-text_in d t e = option_and_then_some if_text (as_str d) t e (λ s from is. text-if_text s t is)
 
 -- what holds of each item read holds of all
-pub All-each_of : {X : Type 0} (P : X → Type 0) (f : Data → Option X) → ((d : Data) (x : X) → f d ≡ Some x → P x) → (ds : Items) (xs : List X) → each_of f ds ≡ Some xs → All P xs
+pub All-each_of : {X : Type 0} (P : X → Type 0) (f : Data → Option X) → ((d : Data) (x : X) → f d ≡ Some x → P x) → (ds : Items) (xs : List X)
+    → each_of f ds ≡ Some xs → All P xs
 All-each_of P f each no_items xs e = let none : [] ≡ xs = cc e in rw (← none) (All-nil P)
 All-each_of {X} P f each (item d ds) xs e = by (f d) (each d) (each_of f ds) (All-each_of P f each ds) e
   where
@@ -185,7 +191,8 @@ All-each_of {X} P f each (item d ds) xs e = by (f d) (each d) (each_of f ds) (Al
 
 -- the longs under a key are below 2^64
 pub All-longs_at : (key : List ℕ) (d : Data) (ns : List ℕ) → longs_at key d ≡ Some ns → All (λ n. n < 2 ^ 64) ns
-All-longs_at key d ns e = option_and_then_some (each_of long_of) (items_at key d) ns e (λ items from is. All-each_of (λ n. n < 2 ^ 64) long_of below-long_of items ns is)
+All-longs_at key d ns e = option_and_then_some (each_of long_of) (items_at key d) ns e
+    (λ items from is. All-each_of (λ n. n < 2 ^ 64) long_of below-long_of items ns is)
 
 -- the ids of an array are below 2^32
 pub All-ids_of : (d : Data) (ns : List ℕ) → ids_of d ≡ Some ns → All (λ n. n < 2 ^ 32) ns
@@ -198,7 +205,8 @@ All-ids_at key d ns e = option_and_then_some ids_of (get key d) ns e (λ found f
 -- and so are those of each list under a key
 pub All-id_lists_at : (key : List ℕ) (d : Data) (lists : List (List ℕ)) → id_lists_at key d ≡ Some lists → All (λ ns. All (λ n. n < 2 ^ 32) ns) lists
 All-id_lists_at key d lists e =
-    option_and_then_some (each_of ids_of) (items_at key d) lists e (λ items from is. All-each_of (λ ns. All (λ n. n < 2 ^ 32) ns) ids_of All-ids_of items lists is)
+    option_and_then_some (each_of ids_of) (items_at key d) lists e
+    (λ items from is. All-each_of (λ ns. All (λ n. n < 2 ^ 32) ns) ids_of All-ids_of items lists is)
 
 -- the texts under a key are UTF-8
 pub All-texts_at : (key : List ℕ) (d : Data) (ts : List (List ℕ)) → texts_at key d ≡ Some ts → All IsUtf8 ts

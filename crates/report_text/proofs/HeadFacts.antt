@@ -59,7 +59,15 @@ IsPlain-head_data axioms budget facts keep repairs version h = (
         (
           IsUtf8-are_ascii _ refl,
           IsUtf8-are_ascii _ refl,
-          (IsUtf8-are_ascii _ refl, h.keep_fits, (IsUtf8-are_ascii _ refl, IsUtf8-repairs_word repairs, (IsUtf8-are_ascii _ refl, omega (arith, small_version version h.version_known), tt))),
+          (
+            IsUtf8-are_ascii _ refl,
+            h.keep_fits,
+            (
+              IsUtf8-are_ascii _ refl,
+              IsUtf8-repairs_word repairs,
+              (IsUtf8-are_ascii _ refl, omega (arith, small_version version h.version_known), tt),
+            ),
+          ),
         ),
       ),
     ),

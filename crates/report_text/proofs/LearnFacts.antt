@@ -16,7 +16,11 @@ use Rattle.report_text.proofs.FieldFacts.{items_depth-numbers, ArePlain-ids, if_
 pub IsPlain-learn_data : (number : ℕ) (clause : List ℕ) → IsWellFormedLearn number clause → IsPlain (learn_data number clause)
 IsPlain-learn_data number clause h = (
   refl,
-  (IsUtf8-are_ascii _ refl, ArePlain-ids clause h.clause_fits, (IsUtf8-are_ascii _ refl, IsUtf8-are_ascii _ refl, (IsUtf8-are_ascii _ refl, h.number_fits, tt))),
+  (
+    IsUtf8-are_ascii _ refl,
+    ArePlain-ids clause h.clause_fits,
+    (IsUtf8-are_ascii _ refl, IsUtf8-are_ascii _ refl, (IsUtf8-are_ascii _ refl, h.number_fits, tt)),
+  ),
 )
 
 -- a learned clause's JSON is shallow
@@ -24,7 +28,8 @@ pub depth-learn_data : (number : ℕ) (clause : List ℕ) → depth (learn_data 
 depth-learn_data number clause = omega (arith, items_depth-numbers clause)
 
 -- a well-formed learned clause's JSON gives back the clause
-pub learn_at-learn_data : (number : ℕ) (clause : List ℕ) → IsWellFormedLearn number clause → learn_at (learn_data number clause) ≡ Some (line.Learn number clause)
+pub learn_at-learn_data : (number : ℕ) (clause : List ℕ) → IsWellFormedLearn number clause
+    → learn_at (learn_data number clause) ≡ Some (line.Learn number clause)
 learn_at-learn_data number clause h = rw (if_below-lt (2 ^ 64) number h.number_fits, each_of-ids clause h.clause_fits) refl
 
 -- a learned clause that is found is well formed

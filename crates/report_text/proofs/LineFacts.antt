@@ -84,10 +84,14 @@ line_at-data_of (line.End answers brave ar iar undecided) h = end_at-end_data an
 -- a line that is found by its kind is well formed
 IsWellFormed-line_of_kind : (word : List ℕ) (d : Data) (found : Line) → line_of_kind word d ≡ Some found → IsWellFormed found
 IsWellFormed-line_of_kind word d found e =
-    by (bytes_eq word (codes "head")) (bytes_eq word (codes "cq")) (bytes_eq word (codes "conflict")) (bytes_eq word (codes "ask")) (bytes_eq word (codes "try")) (bytes_eq word (codes "learn")) (bytes_eq word (codes "core")) (bytes_eq word (codes "done")) (bytes_eq word (codes "forget")) (bytes_eq word (codes "answer")) (bytes_eq word (codes "end")) e
+    by (bytes_eq word (codes "head")) (bytes_eq word (codes "cq")) (bytes_eq word (codes "conflict")) (bytes_eq word (codes "ask"))
+    (bytes_eq word (codes "try")) (bytes_eq word (codes "learn")) (bytes_eq word (codes "core")) (bytes_eq word (codes "done"))
+    (bytes_eq word (codes "forget")) (bytes_eq word (codes "answer")) (bytes_eq word (codes "end")) e
   where
     by : (head_is cq_is conflict_is ask_is try_is learn_is core_is done_is forget_is answer_is end_is : Bool)
-        → (if head_is then head_at d else if cq_is then cq_at d else if conflict_is then conflict_at d else if ask_is then ask_at d else if try_is then try_at d else if learn_is then learn_at d else if core_is then core_at d else if done_is then done_at d else if forget_is then forget_at d else if answer_is then answer_at d else if end_is then end_at d else None) ≡ Some found
+        → (if head_is then head_at d else if cq_is then cq_at d else if conflict_is then conflict_at d else if ask_is then ask_at d else if try_is then try_at
+        d else if learn_is then learn_at d else if core_is then core_at d else if done_is then done_at d else if forget_is then forget_at d else if
+        answer_is then answer_at d else if end_is then end_at d else None) ≡ Some found
         → IsWellFormed found
     by true cq_is conflict_is ask_is try_is learn_is core_is done_is forget_is answer_is end_is e = IsWellFormed-head_at d found e
     by false true conflict_is ask_is try_is learn_is core_is done_is forget_is answer_is end_is e = IsWellFormed-cq_at d found e
@@ -107,7 +111,8 @@ IsWellFormed-line_of_kind word d found e =
 -- what the reader finds is right
 pub IsWellFormed-line_at : (d : Data) (found : Line) → line_at d ≡ Some found → IsWellFormed found
 unfolding line_at
-IsWellFormed-line_at d found e = option_and_then_some (λ word. line_of_kind word d) (word_at (codes "k") d) found e (λ word word_is e. IsWellFormed-line_of_kind word d found e)
+IsWellFormed-line_at d found e = option_and_then_some (λ word. line_of_kind word d) (word_at (codes "k") d) found e
+    (λ word word_is e. IsWellFormed-line_of_kind word d found e)
 
 -- a line's text reads as its JSON
 pub read-text_of : (l : Line) → IsWellFormed l → read (text_of l) ≡ Some (data_of l)
@@ -155,7 +160,8 @@ line_of-sound bytes l e =
     option_and_then_some (λ l. if bytes_eq (text_of l) bytes then Some l else None) (option_and_then line_at (read bytes)) l e (λ found found_is e.
     option_and_then_some line_at (read bytes) found found_is (λ d d_is at. by found (IsWellFormed-line_at d found at) (bytes_eq (text_of found) bytes) refl e))
   where
-    by : (found : Line) → IsWellFormed found → (b : Bool) → bytes_eq (text_of found) bytes ≡ b → (if b then Some found else None) ≡ Some l → IsWellFormed l × (bytes ≡ text_of l)
+    by : (found : Line) → IsWellFormed found → (b : Bool) → bytes_eq (text_of found) bytes ≡ b → (if b then Some found else None) ≡ Some l → IsWellFormed l
+        × (bytes ≡ text_of l)
     by found right true h e =
         let same : found ≡ l = cc e in
         rw (← same) (right, sym ((bytes_eq-Decides (text_of found) bytes).0 h))

@@ -7,7 +7,8 @@ use Rattle.std.proofs.lemmas.List.Folds.{list_any-append}
 use Rattle.std.proofs.lemmas.Fmt.{decimal_by_steps}
 use Rattle.json.specs.Token as token
 use Rattle.json.specs.Print.{escape_byte, escape, quoted, token_text}
-use Rattle.serde_json.specs.Data.{unsigned, negative, float, Data, null, boolean, number, string, array, object, Items, no_items, item, Members, no_members, member}
+use Rattle.serde_json.specs.Data.{unsigned, negative, float, Data, null, boolean, number, string, array, object, Items, no_items, item, Members, no_members}
+use Rattle.serde_json.specs.Data.{member}
 use Rattle.serde_json.specs.Written.{compact_text, items_text, members_text, comma_if}
 use Rattle.report_text.proofs.Plain.{IsPlain, ArePlain, HasPlain}
 
@@ -39,7 +40,8 @@ none-quoted s = none-append (escape s) (34 ∷ []) (none-escape s) refl
 
 -- digits are no line feed
 none-decimal : (n : ℕ) → n < 2 ^ 64 → has_line_feed (decimal n) ≡ false
-none-decimal n small = decimal_by_steps (λ _ ds. has_line_feed ds ≡ false) (λ n below. grind (arith, nat_tests)) (λ n ds above h. none-append ds ((48 + n % 10) ∷ []) h (grind (arith, nat_tests))) n small
+none-decimal n small = decimal_by_steps (λ _ ds. has_line_feed ds ≡ false) (λ n below. grind (arith, nat_tests))
+    (λ n ds above h. none-append ds ((48 + n % 10) ∷ []) h (grind (arith, nat_tests))) n small
 
 -- nor has a word
 none-boolean : (b : Bool) → has_line_feed (token_text (token.boolean b)) ≡ false
@@ -65,9 +67,11 @@ mutual
 
   none-items_text : (b : Bool) (ds : Items) → ArePlain ds → has_line_feed (items_text b ds) ≡ false
   none-items_text b no_items p = refl
-  none-items_text b (item d ds) p = none-append (comma_if b) _ (none-comma_if b) (none-append (compact_text d) _ (none-compact_text d p.0) (none-items_text true ds p.1))
+  none-items_text b (item d ds) p = none-append (comma_if b) _ (none-comma_if b)
+      (none-append (compact_text d) _ (none-compact_text d p.0) (none-items_text true ds p.1))
 
   none-members_text : (b : Bool) (ms : Members) → HasPlain ms → has_line_feed (members_text b ms) ≡ false
   none-members_text b no_members p = refl
   none-members_text b (member k d ms) p =
-      none-append (comma_if b) _ (none-comma_if b) (none-append (quoted k) _ (none-quoted k) (none-append (compact_text d) _ (none-compact_text d p.1) (none-members_text true ms p.2)))
+      none-append (comma_if b) _ (none-comma_if b) (none-append (quoted k) _ (none-quoted k)
+      (none-append (compact_text d) _ (none-compact_text d p.1) (none-members_text true ms p.2)))

@@ -1,5 +1,6 @@
 -- The pieces of bytes.
-use Rattle.std.proofs.Common.{◌≡◌, ◌==◌, ℕ, suc, Bool, true, false, true≢false, List, [], ◌∷◌, ◌++◌, map, Option, Some, None, All, refl, sym, subst, ap, ◌∙◌, append_assoc, append-nil, arith}
+use Rattle.std.proofs.Common.{◌≡◌, ◌==◌, ℕ, suc, Bool, true, false, true≢false, List, [], ◌∷◌, ◌++◌, map, Option, Some, None, All, refl, sym, subst, ap, ◌∙◌}
+use Rattle.std.proofs.Common.{append_assoc, append-nil, arith}
 use Rattle.std.specs.Prelude.{if◌then◌else◌}
 use Rattle.std.proofs.lemmas.Bool.{eqb-true}
 use Rattle.std.proofs.lemmas.Cmp.{nat_eq_equiv}
@@ -8,7 +9,8 @@ use Rattle.std.proofs.lemmas.Map.Views.{list_any-from_Contains}
 use Rattle.report_text.specs.declared.line.Line.{Line}
 use Rattle.report_text.specs.Lines.{IsWellFormed, text_of, line_of}
 use Rattle.report_text.specs.LineBytes.{bytes_of}
-use Rattle.report_text.specs.Pieces.{last_piece, pieces_behind, pieces_of, HasNoLineFeed, FirstPieceIsRead, LastPieceIsNone, PieceIsTold, PiecesAreLines, LinesComeFirst, BytesComeFirst, LawsOfPieces}
+use Rattle.report_text.specs.Pieces.{last_piece, pieces_behind, pieces_of, HasNoLineFeed, FirstPieceIsRead, LastPieceIsNone, PieceIsTold, PiecesAreLines}
+use Rattle.report_text.specs.Pieces.{LinesComeFirst, BytesComeFirst, LawsOfPieces}
 use Rattle.report_text.proofs.LineFacts.{none-text_of, line_of-text_of, line_of-sound}
 
 -- the first byte of bytes with no line feed is none
@@ -82,7 +84,8 @@ abbrev Begins : List ℕ → List Line → List (Option Line) → Type 0
 Begins bytes lines others = All IsWellFormed lines × ((rest : List ℕ) × (bytes ≡ bytes_of lines ++ rest) × (others ≡ pieces_behind [] rest))
 
 -- one line more in front
-begins_more : (text bytes : List ℕ) (l : Line) (lines : List Line) (others : List (Option Line)) → line_of text ≡ Some l → Begins bytes lines others → Begins (text ++ (10 ∷ bytes)) (l ∷ lines) others
+begins_more : (text bytes : List ℕ) (l : Line) (lines : List Line) (others : List (Option Line)) → line_of text ≡ Some l → Begins bytes lines others
+    → Begins (text ++ (10 ∷ bytes)) (l ∷ lines) others
 begins_more text bytes l lines others is (w, (rest, e, same)) =
     let s = line_of-sound text l is in (
       All-cons IsWellFormed l lines s.0 w,
@@ -93,13 +96,15 @@ begins_more text bytes l lines others is (w, (rest, e, same)) =
       ),
     )
 
-begins : (piece bytes : List ℕ) (l : Line) (lines : List Line) (others : List (Option Line)) → pieces_behind piece bytes ≡ map Some (l ∷ lines) ++ others → Begins (piece ++ bytes) (l ∷ lines) others
+begins : (piece bytes : List ℕ) (l : Line) (lines : List Line) (others : List (Option Line)) → pieces_behind piece bytes ≡ map Some (l ∷ lines) ++ others
+    → Begins (piece ++ bytes) (l ∷ lines) others
 unfolding pieces_behind
 begins [] [] l lines others e = absurd (cc)
 begins (b ∷ piece) [] l lines others e = absurd (cc)
 begins piece (b ∷ bytes) l lines others e = by (10 == b) (eqb-true 10 b) (λ k ks. begins [] bytes k ks others) (begins (piece ++ b ∷ []) bytes l lines others) e
   where
-    behind : (ls : List Line) → pieces_behind [] bytes ≡ map Some ls ++ others → ((k : Line) (ks : List Line) → pieces_behind [] bytes ≡ map Some (k ∷ ks) ++ others → Begins bytes (k ∷ ks) others) → Begins bytes ls others
+    behind : (ls : List Line) → pieces_behind [] bytes ≡ map Some ls ++ others
+        → ((k : Line) (ks : List Line) → pieces_behind [] bytes ≡ map Some (k ∷ ks) ++ others → Begins bytes (k ∷ ks) others) → Begins bytes ls others
     behind [] e again = (All-nil IsWellFormed, (bytes, refl, sym e))
     behind (k ∷ ks) e again = again k ks e
 
@@ -143,8 +148,18 @@ pieces_are_lines bytes lines = (
   (λ e.
       let (w, (rest, same, others)) = bytes_first bytes lines [] (e ∙ sym (append-nil (map Some lines))) in
       (w, same ∙ ap (λ (r : List ℕ). bytes_of lines ++ r) (none_left rest others) ∙ append-nil (bytes_of lines))),
-  (λ (w, e). ap pieces_of (e ∙ sym (append-nil (bytes_of lines))) ∙ lines_first lines [] w ∙ ap (λ (os : List (Option Line)). map Some lines ++ os) no_pieces ∙ append-nil (map Some lines)),
+  (λ (w, e). ap pieces_of (e ∙ sym (append-nil (bytes_of lines))) ∙ lines_first lines [] w ∙ ap (λ (os : List (Option Line)). map Some lines ++ os) no_pieces
+      ∙ append-nil (map Some lines)),
 )
 
 pub laws : LawsOfPieces
-laws = record { no_bytes = no_pieces; first_read = first_piece; last_none = only_piece; told = piece_told; lines = pieces_are_lines; lines_first = lines_first; bytes_first = bytes_first }
+laws = record {
+  no_bytes = no_pieces;
+  first_read = first_piece;
+  last_none = only_piece;
+  told = piece_told;
+  lines = pieces_are_lines;
+  lines_first =
+      lines_first;
+  bytes_first = bytes_first;
+}

@@ -1,5 +1,6 @@
 -- Plain data: no float, no negative number, UTF-8 in strings, keys that ascend. Its compact text is UTF-8 and reads back as the data.
-use Rattle.std.proofs.Common.{◌≡◌, ℕ, ◌<◌, ◌≤◌, ◌^◌, Bool, true, false, ◌&&◌, List, [], ◌∷◌, Option, Some, option_map, option_and_then, refl, sym, ap, ◌∙◌, arith, append-nil, decimal, IsUtf8}
+use Rattle.std.proofs.Common.{◌≡◌, ℕ, ◌<◌, ◌≤◌, ◌^◌, Bool, true, false, ◌&&◌, List, [], ◌∷◌, Option, Some, option_map, option_and_then, refl, sym, ap, ◌∙◌}
+use Rattle.std.proofs.Common.{arith, append-nil, decimal, IsUtf8}
 use Rattle.std.proofs.lemmas.Str.{IsUtf8-append, IsUtf8-from_ascii}
 use Rattle.std.proofs.lemmas.Fmt.{IsAscii-decimal}
 use Rattle.std.specs.Prelude.{⊤}
@@ -15,7 +16,8 @@ use Rattle.json.proofs.Printed.Tokens.{tokens-print}
 use Rattle.json.proofs.Printed.Trees.{value-json_tokens, ArePrintable-json_tokens}
 use Rattle.json.proofs.Printed.Decimals.{IsNumber-decimal}
 use Rattle.json.proofs.Printed.Utf8.{IsUtf8-quoted, IsUtf8-are_ascii, IsUtf8-boolean}
-use Rattle.serde_json.specs.Data.{Num, unsigned, negative, float, Data, null, boolean, number, string, array, object, Items, no_items, item, Members, no_members, member, put, depth, items_depth, members_depth}
+use Rattle.serde_json.specs.Data.{Num, unsigned, negative, float, Data, null, boolean, number, string, array, object, Items, no_items, item, Members}
+use Rattle.serde_json.specs.Data.{no_members, member, put, depth, items_depth, members_depth}
 use Rattle.serde_json.specs.Read.{read, max_depth, of_json, of_items, of_members}
 use Rattle.serde_json.specs.Written.{outline, items_outline, members_outline, compact_text, items_text, members_text, comma_if}
 use Rattle.serde_json.proofs.Numbers.{number_of-decimal}
@@ -161,9 +163,12 @@ from_tokens ts = option_and_then of_json (option_and_then (λ p. json.if_last p.
 -- the compact text of plain data reads back as the data
 pub read-compact_text : (d : Data) → IsPlain d → depth d ≤ max_depth → read (compact_text d) ≡ Some d
 read-compact_text d p shallow =
-    let printed = ap tokens (sym (print-outline d)) ∙ tokens-print (tree.json_tokens (outline d)) (ArePrintable-json_tokens (outline d) (numbers-outline d p)) in
-    ap (λ ts. option_and_then of_json (option_and_then (λ p. json.if_last p.0 p.1) (json.value max_depth ts))) (printed ∙ sym (append-nil (tree.json_tokens (outline d))))
-    ∙ ap (λ r. option_and_then of_json (option_and_then (λ p. json.if_last p.0 p.1) r)) (value-json_tokens (outline d) max_depth [] (omega (arith, depth-outline d, shallow)))
+    let printed = ap tokens (sym (print-outline d)) ∙ tokens-print (tree.json_tokens (outline d))
+    (ArePrintable-json_tokens (outline d) (numbers-outline d p)) in
+    ap (λ ts. option_and_then of_json (option_and_then (λ p. json.if_last p.0 p.1) (json.value max_depth ts)))
+    (printed ∙ sym (append-nil (tree.json_tokens (outline d))))
+    ∙ ap (λ r. option_and_then of_json (option_and_then (λ p. json.if_last p.0 p.1) r))
+    (value-json_tokens (outline d) max_depth [] (omega (arith, depth-outline d, shallow)))
     ∙ of_json-outline d p
 
 -- TEXT
@@ -192,4 +197,5 @@ mutual
   IsUtf8-members_text : (b : Bool) (ms : Members) → HasPlain ms → IsUtf8 (members_text b ms)
   IsUtf8-members_text b no_members p = IsUtf8-are_ascii (125 ∷ []) refl
   IsUtf8-members_text b (member k d ms) p =
-      IsUtf8-append _ _ (IsUtf8-comma_if b) (IsUtf8-append _ _ (IsUtf8-quoted k p.0) (IsUtf8-append (58 ∷ []) _ (IsUtf8-are_ascii (58 ∷ []) refl) (IsUtf8-append _ _ (IsUtf8-compact_text d p.1) (IsUtf8-members_text true ms p.2))))
+      IsUtf8-append _ _ (IsUtf8-comma_if b) (IsUtf8-append _ _ (IsUtf8-quoted k p.0)
+      (IsUtf8-append (58 ∷ []) _ (IsUtf8-are_ascii (58 ∷ []) refl) (IsUtf8-append _ _ (IsUtf8-compact_text d p.1) (IsUtf8-members_text true ms p.2))))

@@ -1,5 +1,6 @@
 -- The bytes of lines, and the lines that bytes tell.
-use Rattle.std.proofs.Common.{◌≡◌, ℕ, zero, suc, ◌+◌, ◌-◌, ◌<◌, Bool, true, false, ◌||◌, List, [], ◌∷◌, ◌++◌, length, take, Option, Some, None, option_map, option_and_then, refl, sym, ap, ◌∙◌, arith, append_assoc, append-nil, All, IfSome, IsSomeAnd, ◌↔◌, String, Global, string_bytes}
+use Rattle.std.proofs.Common.{◌≡◌, ℕ, zero, suc, ◌+◌, ◌-◌, ◌<◌, Bool, true, false, ◌||◌, List, [], ◌∷◌, ◌++◌, length, take, Option, Some, None, option_map}
+use Rattle.std.proofs.Common.{option_and_then, refl, sym, ap, ◌∙◌, arith, append_assoc, append-nil, All, IfSome, IsSomeAnd, ◌↔◌, String, Global, string_bytes}
 use Rattle.std.specs.Prelude.{◌==◌, if◌then◌else◌, slice_index}
 use Rattle.std.specs.Str.{bytes_eq}
 use Rattle.std.proofs.lemmas.Bool.{eqb-true}
@@ -51,12 +52,14 @@ abbrev no_line : List ℕ → Option Line → Option (List Line)
 no_line piece torn = if bytes_eq piece (take (length piece) (torn_text torn)) then Some [] else None
 
 -- a text and a line feed end a piece
-behind-text : (piece text more : List ℕ) (torn : Option Line) → has_line_feed text ≡ false → lines_behind piece (text ++ (10 ∷ more)) torn ≡ first_line (piece ++ text) (lines_behind [] more torn)
+behind-text : (piece text more : List ℕ) (torn : Option Line) → has_line_feed text ≡ false
+    → lines_behind piece (text ++ (10 ∷ more)) torn ≡ first_line (piece ++ text) (lines_behind [] more torn)
 unfolding lines_behind
 behind-text piece [] more torn h = rw (append-nil piece) refl
 behind-text piece (b ∷ text) more torn h =
     let shifted : (piece ++ b ∷ []) ++ text ≡ piece ++ (b ∷ text) = append_assoc piece (b ∷ []) text in
-    rw (first_of_none b text h) (behind-text (piece ++ b ∷ []) text more torn (rest_of_none b text h) ∙ ap (λ t. first_line t (lines_behind [] more torn)) shifted)
+    rw (first_of_none b text h) (behind-text (piece ++ b ∷ []) text more torn (rest_of_none b text h)
+    ∙ ap (λ t. first_line t (lines_behind [] more torn)) shifted)
 
 -- bytes with no line feed stay in the piece
 behind-rest : (piece rest : List ℕ) (torn : Option Line) → has_line_feed rest ≡ false → lines_behind piece rest torn ≡ no_line (piece ++ rest) torn
@@ -87,18 +90,26 @@ behind-bytes_of (l ∷ lines) n torn right h =
     ∙ ap (option_map (λ lines. l ∷ lines)) (behind-bytes_of lines n torn (All-tail IsWellFormed l lines right) h)
 
 -- the bytes behind the piece are those of the lines, before a part of the torn line's text
-sound-behind : (piece bytes : List ℕ) (torn : Option Line) (lines : List Line) → lines_behind piece bytes torn ≡ Some lines → AreBytesOf lines torn (piece ++ bytes)
+sound-behind : (piece bytes : List ℕ) (torn : Option Line) (lines : List Line) → lines_behind piece bytes torn ≡ Some lines
+    → AreBytesOf lines torn (piece ++ bytes)
 unfolding lines_behind
 sound-behind piece [] torn lines e = by (bytes_eq piece (take (length piece) (torn_text torn))) refl e
   where
-    by : (b : Bool) → bytes_eq piece (take (length piece) (torn_text torn)) ≡ b → (if b then Some [] else None) ≡ Some lines → AreBytesOf lines torn (piece ++ [])
+    by : (b : Bool) → bytes_eq piece (take (length piece) (torn_text torn)) ≡ b → (if b then Some [] else None) ≡ Some lines
+        → AreBytesOf lines torn (piece ++ [])
     by true h e =
         let same : [] ≡ lines = cc e in
-        rw (← same, append-nil piece) (record { well_formed = All-nil IsWellFormed; part = length piece; exact = (bytes_eq-Decides piece (take (length piece) (torn_text torn))).0 h })
+        rw (← same, append-nil piece) (record {
+          well_formed = All-nil IsWellFormed;
+          part = length piece;
+          exact =
+              (bytes_eq-Decides piece (take (length piece) (torn_text torn))).0 h;
+        })
     by false h e = cc e
 sound-behind piece (b ∷ bytes) torn lines e = by (10 == b) (eqb-true 10 b) (sound-behind [] bytes torn) (sound-behind (piece ++ b ∷ []) bytes torn lines) e
   where
-    with_first : (l : Line) → IsWellFormed l → piece ≡ text_of l → 10 ≡ b → (found : Option (List Line)) → ((more : List Line) → found ≡ Some more → AreBytesOf more torn bytes)
+    with_first : (l : Line) → IsWellFormed l → piece ≡ text_of l → 10 ≡ b → (found : Option (List Line))
+        → ((more : List Line) → found ≡ Some more → AreBytesOf more torn bytes)
         → option_map (λ more. l ∷ more) found ≡ Some lines → AreBytesOf lines torn (piece ++ b ∷ bytes)
     with_first l right is lf None deeper e = cc e
     with_first l right is lf (Some more) deeper e =
@@ -128,7 +139,8 @@ none-torn_text None h = refl
 none-torn_text (Some l) h = none-text_of l h
 
 -- the bytes of lines tell the lines
-pub told-bytes_of : (bytes : List ℕ) (torn : Option Line) (lines : List Line) → IfSome torn IsWellFormed → AreBytesOf lines torn bytes → lines_told (Some bytes) torn ≡ Some lines
+pub told-bytes_of : (bytes : List ℕ) (torn : Option Line) (lines : List Line) → IfSome torn IsWellFormed → AreBytesOf lines torn bytes
+    → lines_told (Some bytes) torn ≡ Some lines
 unfolding lines_told
 told-bytes_of bytes torn lines right h =
     ap (λ bs. lines_behind [] bs torn) h.exact ∙ behind-bytes_of lines h.part torn h.well_formed (none-torn_text torn right)
@@ -154,7 +166,8 @@ told-exactly None torn lines form = ((λ e. cc e), (λ h. absurd h))
 -- the bytes of a further line come last
 bytes_of-append : (lines : List Line) (l : Line) → bytes_of (lines ++ l ∷ []) ≡ bytes_of lines ++ (text_of l ++ 10 ∷ [])
 bytes_of-append [] l = refl
-bytes_of-append (k ∷ lines) l = ap (λ bs. text_of k ++ (10 ∷ bs)) (bytes_of-append lines l) ∙ sym (append_assoc (text_of k) (10 ∷ bytes_of lines) (text_of l ++ 10 ∷ []))
+bytes_of-append (k ∷ lines) l = ap (λ bs. text_of k ++ (10 ∷ bs)) (bytes_of-append lines l)
+    ∙ sym (append_assoc (text_of k) (10 ∷ bytes_of lines) (text_of l ++ 10 ∷ []))
 
 -- where no line is torn, no part of one is written
 take-none : (n : ℕ) → take n (torn_text None) ≡ []
@@ -173,7 +186,8 @@ AddsLine-written (Some before) new l bytes right is e = by (lines_told (Some bef
     by (Some lines) h =
         let are = bytes_of-told before None lines h in
         let exact : before ≡ bytes_of lines = are.exact ∙ ap (λ bs. bytes_of lines ++ bs) (take-none are.part) ∙ append-nil (bytes_of lines) in
-        let now : before ++ bytes ≡ bytes_of (lines ++ l ∷ []) = ap (λ bs. bs ++ bytes) exact ∙ ap (λ bs. bytes_of lines ++ bs) is ∙ sym (bytes_of-append lines l) in
+        let now : before ++ bytes ≡ bytes_of (lines ++ l ∷ []) = ap (λ bs. bs ++ bytes) exact ∙ ap (λ bs. bytes_of lines ++ bs) is
+        ∙ sym (bytes_of-append lines l) in
         rw e (told-bytes_of (before ++ bytes) None (lines ++ l ∷ []) tt (record {
           well_formed = All-append IsWellFormed lines (l ∷ []) are.well_formed (All-cons IsWellFormed l [] right (All-nil IsWellFormed));
           part = 0;
@@ -202,7 +216,8 @@ StayTold-part (Some before) new l bytes right is h = by (lines_told (Some before
         }))
 
 -- what is left of a text where its line feed was taken off
-pub text_without : (old new text : List ℕ) (n : ℕ) → old ≡ text ++ 10 ∷ [] → n ≡ length old → (0 < n → slice_index old (n - 1) < 128 → new ≡ take (n - 1) old) → new ≡ text
+pub text_without : (old new text : List ℕ) (n : ℕ) → old ≡ text ++ 10 ∷ [] → n ≡ length old → (0 < n → slice_index old (n - 1) < 128 → new ≡ take (n - 1) old)
+    → new ≡ text
 text_without old new text n is len cut =
     let size : n ≡ length text + 1 = len ∙ ap length is ∙ length-append text (10 ∷ []) in
     let last : slice_index old (n - 1) ≡ 10 = rw (is, size) (grind (arith, common_steps)) in

@@ -30,7 +30,11 @@ question_of-word Ar = refl
 pub IsPlain-try_data : (question : Question) (assume : List ℕ) → IsWellFormedTry assume → IsPlain (try_data question assume)
 IsPlain-try_data question assume h = (
   refl,
-  (IsUtf8-are_ascii _ refl, ArePlain-ids assume h.assume_fits, (IsUtf8-are_ascii _ refl, IsUtf8-are_ascii _ refl, (IsUtf8-are_ascii _ refl, IsUtf8-question_word question, tt))),
+  (
+    IsUtf8-are_ascii _ refl,
+    ArePlain-ids assume h.assume_fits,
+    (IsUtf8-are_ascii _ refl, IsUtf8-are_ascii _ refl, (IsUtf8-are_ascii _ refl, IsUtf8-question_word question, tt)),
+  ),
 )
 
 -- a try's JSON is shallow

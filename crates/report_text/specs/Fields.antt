@@ -1,5 +1,6 @@
 -- What the fields of a line are as JSON: numbers, words, and arrays of numbers, of lists and of texts.
-use Rattle.std.specs.Prelude.{ℕ, ◌==◌, ◌^◌, List, [], ◌∷◌, map, Bool, not, ◌&&◌, Option, Some, None, is_some, option_and_then, option_map, if◌then◌else◌, nat_lt, nat_le}
+use Rattle.std.specs.Prelude.{ℕ, ◌==◌, ◌^◌, List, [], ◌∷◌, map, Bool, not, ◌&&◌, Option, Some, None, is_some, option_and_then, option_map, if◌then◌else◌}
+use Rattle.std.specs.Prelude.{nat_lt, nat_le}
 use Rattle.std.specs.List.{list_all}
 use Rattle.std.specs.Str.{is_utf8}
 use Rattle.serde_json.specs.Data.{Data, null, number, unsigned, string, array, Items, no_items, item}

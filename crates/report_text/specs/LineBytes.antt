@@ -1,5 +1,6 @@
 -- The bytes of lines, and the lines that the bytes of a sink tell.
-use Rattle.std.specs.Prelude.{◌≡◌, ◌==◌, ℕ, List, [], ◌∷◌, ◌++◌, length, take, All, Option, Some, None, option_and_then, option_map, if◌then◌else◌, Result, Ok, Err, String, string_bytes}
+use Rattle.std.specs.Prelude.{◌≡◌, ◌==◌, ℕ, List, [], ◌∷◌, ◌++◌, length, take, All, Option, Some, None, option_and_then, option_map, if◌then◌else◌, Result}
+use Rattle.std.specs.Prelude.{Ok, Err, String, string_bytes}
 use Rattle.std.specs.Global.{Global}
 use Rattle.std.specs.Str.{bytes_eq}
 use Rattle.cq_io.specs.Writing.{appended, AppendsPart}

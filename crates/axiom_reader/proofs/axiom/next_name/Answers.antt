@@ -12,7 +12,13 @@ returns-in_err-word c = record { exact = rw (c.from_residual.ensures, c.in_err-w
 pub returns-in_err-name : goal.returns-in_err-name
 unfolding name_at
 returns-in_err-name c =
-    record { exact = rw (c.from_residual-in_err-name.ensures, c.in_ok-word.ensures.found, untrue (is_name_text c.in_ok-word.word.now) c.in_err-name.ensures.none) refl }
+    record {
+      exact = rw (
+        c.from_residual-in_err-name.ensures,
+        c.in_ok-word.ensures.found,
+        untrue (is_name_text c.in_ok-word.word.now) c.in_err-name.ensures.none,
+      ) refl;
+    }
 
 pub returns : goal.returns
 unfolding name_at

@@ -15,7 +15,8 @@ pub returns-in_err-take_line-clause-kept : goal.returns-in_err-take_line-clause-
 returns-in_err-take_line-clause-kept c = Keeps-trans _ _ _ (reads_kept _ _ _ _ _ _ c.loop-rest.invariant) c.take_line.ensures.kept
 
 pub loop-rest-preserved : goal.loop-rest-preserved
-loop-rest-preserved c = reads_more _ _ _ _ _ _ _ _ _ _ c.loop-rest.invariant c.first_line.ensures.exact c.in_ok-take_line.ensures.exact c.in_ok-take_line.ensures.grown
+loop-rest-preserved c = reads_more _ _ _ _ _ _ _ _ _ _ c.loop-rest.invariant c.first_line.ensures.exact c.in_ok-take_line.ensures.exact
+    c.in_ok-take_line.ensures.grown
 
 pub returns-clause-exact : goal.returns-clause-exact
 returns-clause-exact c = reads_all _ _ _ _ _ _ c.loop-rest.invariant (grind (arith, nat_tests))

@@ -12,6 +12,8 @@ loop-place-preserved c =
     let at = get_or places i 0 in
     let within : at < length answers = c.requires.places i 0 c.loop-place-test.true in
     record {
-      filled = filled_more c.args.table.now.kb.now answers c.args.apart.now.names places i c.args.lists.now c.loop-place.lists at _ c.in_ok-lists.field-0 c.loop-place-test.true refl (omega (arith, within, c.requires.sizes, c.loop-place.invariant.size)) (slice_get-get_or answers at _ within) c.in_ok-lists.ensures.exact c.loop-place.invariant.filled;
+      filled = filled_more c.args.table.now.kb.now answers c.args.apart.now.names places i c.args.lists.now c.loop-place.lists at _ c.in_ok-lists.field-0
+          c.loop-place-test.true refl (omega (arith, within, c.requires.sizes, c.loop-place.invariant.size)) (slice_get-get_or answers at _ within)
+          c.in_ok-lists.ensures.exact c.loop-place.invariant.filled;
       size = length-set c.loop-place.lists at _ ∙ c.loop-place.invariant.size;
     }

@@ -17,13 +17,15 @@ loop-name-preserved-then-is_empty c =
       above_bound = c.loop-name.invariant.above_bound;
       apart_bound = c.loop-name.invariant.apart_bound;
       size = c.loop-name.invariant.size;
-      filled = filled_below_skip c.args.table.now.kb.now c.args.answers.now places c.loop-name.lists.items c.loop-name.name (sym e) c.loop-name.invariant.filled;
+      filled = filled_below_skip c.args.table.now.kb.now c.args.answers.now places c.loop-name.lists.items c.loop-name.name (sym e)
+          c.loop-name.invariant.filled;
     }
 
 pub fill-requires-clause-places : goal.fill-requires-clause-places
 fill-requires-clause-places c =
     let places = c.args.places.now in
-    let e = read_at places c.loop-name.name c.index-places-name.result [] c.as_slice.result.now c.loop-name-test.true c.index-places-name.is c.as_slice.ensures.lent in
+    let e = read_at places c.loop-name.name c.index-places-name.result [] c.as_slice.result.now c.loop-name-test.true c.index-places-name.is
+    c.as_slice.ensures.lent in
     λ k d l. places_below c.args.table.now.kb.now.facts c.args.answers.now places c.loop-name.name c.as_slice.result.now c.requires.places e k d l
 
 pub loop-name-preserved : goal.loop-name-preserved
@@ -39,7 +41,8 @@ loop-name-preserved c =
     let above : AreLists inclusion kb.axioms c.in_ok-hierarchy.hierarchy.above.items = rw (← c.axioms.ensures.lent) c.in_ok-hierarchy.ensures.above in
     let against : AreLists disjointness kb.axioms c.in_ok-hierarchy.hierarchy.apart.items = rw (← c.axioms.ensures.lent) c.in_ok-hierarchy.ensures.apart in
     let names : AreNamesApart kb.axioms name apart = c.in_ok-find_apart.ensures.exact kb.axioms (above, against) c.in_ok-inverse.ensures.exact in
-    let filled : AreFilled kb answers apart c.as_slice.result.now items new = subst (λ old. AreFilled kb answers apart c.as_slice.result.now old new) c.deref_mut.ensures.value c.in_ok-fill.ensures.exact in
+    let filled : AreFilled kb answers apart c.as_slice.result.now items new =
+    subst (λ old. AreFilled kb answers apart c.as_slice.result.now old new) c.deref_mut.ensures.value c.in_ok-fill.ensures.exact in
     let size : length new ≡ length answers = c.fill.auto.lists ∙ ap length c.deref_mut.ensures.value ∙ c.loop-name.invariant.size in
     let back = written_back new items c.loop-name.lists.len (omega (arith, size, c.loop-name.invariant.size, c.loop-name.lists.ok.0)) in
     let kept = c.in_ok-find_apart.ensures.emptied in
@@ -49,7 +52,8 @@ loop-name-preserved c =
       apart_bound = c.in_ok-find_apart.ensures.bound ∙ ap (λ (v : Members). v.bound) c.clear.ensures.exact ∙ c.loop-name.invariant.apart_bound;
       size = ap length back ∙ size;
       filled = subst (AreFilledBelow kb answers places (name + 1)) (sym back)
-          (filled_below_more kb answers (map (name_of_witness kb.facts) answers) places items new name apart c.as_slice.result.now c.requires.places e names filled c.loop-name.invariant.filled);
+          (filled_below_more kb answers (map (name_of_witness kb.facts) answers) places items new name apart c.as_slice.result.now c.requires.places e names
+          filled c.loop-name.invariant.filled);
     }
 
 pub returns : goal.returns
@@ -57,4 +61,7 @@ returns c =
     let kb = c.args.table.now.kb.now in
     let places = c.args.places.now in
     let end : length places ≤ c.loop-name.name = c.loop-name-test.false in
-    record { exact = all_filled kb c.args.answers.now places c.loop-name.lists.items c.loop-name.name c.requires.places (λ a p m. omega (arith, named_within places a p m, end)) c.requires.witnesses c.loop-name.invariant.size c.loop-name.invariant.filled }
+    record {
+      exact = all_filled kb c.args.answers.now places c.loop-name.lists.items c.loop-name.name c.requires.places
+          (λ a p m. omega (arith, named_within places a p m, end)) c.requires.witnesses c.loop-name.invariant.size c.loop-name.invariant.filled;
+    }

@@ -21,6 +21,8 @@ returns-in-Disjoint-Concept-Concept-clause-apart c =
     let b = c.in-Disjoint-Concept-Concept.b in
     let left : c.in-Disjoint-Concept-Concept.left ≡ Concept a = rw c.in-Disjoint-Concept-Concept.is at c.in-Disjoint-Concept-Concept.left-is in
     let right : c.in-Disjoint-Concept-Concept.right ≡ Concept b = rw c.in-Disjoint-Concept-Concept.is at c.in-Disjoint-Concept-Concept.right-is in
-    let e : c.args.rule ≡ disjointness a b = c.in-Disjoint-Concept-Concept.is ∙ ap (λ l. Disjoint l c.in-Disjoint-Concept-Concept.right) left ∙ ap (Disjoint (Concept a)) right in
+    let e : c.args.rule ≡ disjointness a b = c.in-Disjoint-Concept-Concept.is ∙ ap (λ l. Disjoint l c.in-Disjoint-Concept-Concept.right) left
+    ∙ ap (Disjoint (Concept a)) right in
     let within = subst (IsOfNamesBelow (length c.args.above.now)) e c.requires.names in
-    on_ok c.add_entry-in-Disjoint-Concept-Concept.result c.add_entry-in-Disjoint-Concept-Concept.ensures.exact (λ d. rw (d, e) (AddsPair-entry disjointness disjointness-same c.args.apart.now a b (subst (λ n. a < n) (sym c.requires.sizes) within.0)))
+    on_ok c.add_entry-in-Disjoint-Concept-Concept.result c.add_entry-in-Disjoint-Concept-Concept.ensures.exact
+    (λ d. rw (d, e) (AddsPair-entry disjointness disjointness-same c.args.apart.now a b (subst (λ n. a < n) (sym c.requires.sizes) within.0)))

@@ -23,7 +23,10 @@ insert_all-requires c =
     let same = ap (λ ns. get_or ns c.loop-next.next 0) c.names-in-loop-next.ensures.lent in
     let inside : from < length c.args.lists.now = omega (arith, below, same, c.loop-next.invariant.bound, c.requires.within.size) in
     let names = read_at c.args.lists.now from c.index-lists-from.result [] c.as_slice.result.now inside c.index-lists-from.is c.as_slice.ensures.lent in
-    record { within = names_at_within c.loop-next.reached.bound c.args.lists.now from c.as_slice.result.now (rw c.loop-next.invariant.bound c.requires.within) names }
+    record {
+      within = names_at_within c.loop-next.reached.bound c.args.lists.now from c.as_slice.result.now (rw c.loop-next.invariant.bound c.requires.within)
+          names;
+    }
 
 pub loop-next-smaller : goal.loop-next-smaller
 loop-next-smaller c =
@@ -41,10 +44,12 @@ loop-next-preserved c =
     let same : from ≡ get_or reached.names next 0 = ap (λ ns. get_or ns next 0) c.names-in-loop-next.ensures.lent in
     let inside : from < length c.args.lists.now = omega (arith, below, same, c.loop-next.invariant.bound, c.requires.within.size) in
     let names = read_at c.args.lists.now from c.index-lists-from.result [] c.as_slice.result.now inside c.index-lists-from.is c.as_slice.ensures.lent in
-    let closes = Closes-more c.args.lists.now c.args.reached.now.names reached.names next c.as_slice.result.now at (names ∙ ap (names_at c.args.lists.now) same) c.loop-next.invariant.closes in
+    let closes = Closes-more c.args.lists.now c.args.reached.now.names reached.names next c.as_slice.result.now at
+    (names ∙ ap (names_at c.args.lists.now) same) c.loop-next.invariant.closes in
     record {
       bound = ap (λ (v : Members). v.bound) c.in_ok-insert_all.ensures.exact ∙ c.loop-next.invariant.bound;
-      closes = subst (λ ns. Closes c.args.lists.now c.args.reached.now.names ns (next + 1)) (sym (ap (λ (v : Members). v.names) c.in_ok-insert_all.ensures.exact)) closes;
+      closes = subst (λ ns. Closes c.args.lists.now c.args.reached.now.names ns (next + 1))
+          (sym (ap (λ (v : Members). v.names) c.in_ok-insert_all.ensures.exact)) closes;
     }
 
 pub returns-clause-bound : goal.returns-clause-bound

@@ -13,5 +13,9 @@ loop-name-preserved c y h d = elim (Contains-take_cases c.args.names.now c.loop-
 
 pub returns : goal.returns
 returns c = record {
-  exact = ((λ t. absurd (true≢false (sym t))), (λ (y, h, d). absurd (c.loop-name.invariant y (Contains-all_taken c.args.names.now c.loop-name.name-index y c.loop-name-test.false h) d)));
+  exact = (
+    (λ t. absurd (true≢false (sym t))),
+    (λ (y, h, d). absurd
+        (c.loop-name.invariant y (Contains-all_taken c.args.names.now c.loop-name.name-index y c.loop-name-test.false h) d)),
+  );
 }

@@ -9,7 +9,8 @@ loop-name-init c x y (k, l, e) = absurd (omega (arith, l))
 
 pub has_any-requires : goal.has_any-requires
 has_any-requires c =
-    let at : c.loop-name.name-index < length c.args.set.now.names = subst (λ ns. c.loop-name.name-index < length ns) c.names-name-items.ensures.lent c.loop-name-test.true in
+    let at : c.loop-name.name-index < length c.args.set.now.names =
+    subst (λ ns. c.loop-name.name-index < length ns) c.names-name-items.ensures.lent c.loop-name-test.true in
     let from = get_or c.names-name-items.result.now c.loop-name.name-index 0 in
     let below = c.names-name-items.ensures.within c.loop-name.name-index 0 at in
     let same = ap (λ ns. get_or ns c.loop-name.name-index 0) c.names-name-items.ensures.lent in
@@ -36,5 +37,7 @@ pub returns : goal.returns
 returns c =
     let items = c.names-name-items.result.now in
     let i = c.loop-name.name-index in
-    let none = λ (x : ℕ) (y : ℕ) (a : Contains c.args.set.now.names x) (b : Contains (names_at c.args.lists.now x) y) (d : Contains c.args.set.now.names y). c.loop-name.invariant x y (Contains-all_taken items i x c.loop-name-test.false (subst (λ ns. Contains ns x) (sym c.names-name-items.ensures.lent) a)) b d in
+    let none = λ (x : ℕ) (y : ℕ) (a : Contains c.args.set.now.names x) (b : Contains (names_at c.args.lists.now x) y) (d : Contains c.args.set.now.names y).
+    c.loop-name.invariant x y (Contains-all_taken items i x c.loop-name-test.false (subst (λ ns. Contains ns x) (sym c.names-name-items.ensures.lent) a))
+    b d in
     record { exact = ((λ t. absurd (true≢false (sym t))), (λ (x, y, a, b, d). absurd (none x y a b d))) }

@@ -14,7 +14,8 @@ loop-place-preserved c =
     let key : Option ℕ = get_or keys place None in
     let at : slice_get keys place ≡ Some key = slice_get-get_or keys place None c.loop-place-test.true in
     let exact : new ≡ with_place items key place = c.in_ok-add_place.ensures.exact ∙ ap (λ old. with_place old key place) c.deref_mut.ensures.value in
-    let more = ArePlacesBelow-more keys place items c.loop-place.invariant.places key at (λ k e. omega (arith, c.requires.below place k (at ∙ ap Some e), c.loop-place.invariant.size)) in
+    let more = ArePlacesBelow-more keys place items c.loop-place.invariant.places key at
+    (λ k e. omega (arith, c.requires.below place k (at ∙ ap Some e), c.loop-place.invariant.size)) in
     let size : length new ≡ c.args.bound = ap length exact ∙ length-with_place items key place ∙ c.loop-place.invariant.size in
     let back = written_back new items c.loop-place.places.len (omega (arith, size, c.loop-place.invariant.size, c.loop-place.places.ok.0)) in
     record {

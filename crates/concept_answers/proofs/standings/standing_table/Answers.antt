@@ -41,18 +41,27 @@ loop-name-preserved c =
     let axioms = c.args.kb.now.axioms in
     let above : AreLists inclusion axioms c.in_ok-hierarchy.hierarchy.above.items = rw (← c.axioms.ensures.lent) c.in_ok-hierarchy.ensures.above in
     let apart : AreLists disjointness axioms c.in_ok-hierarchy.hierarchy.apart.items = rw (← c.axioms.ensures.lent) c.in_ok-hierarchy.ensures.apart in
-    let here = λ (t : slice_get used name ≡ Some true). some_and c.in_ok-standing.standing _ (c.in_ok-standing.ensures.exact (get_or_from_slice_get used name true _ t)) in
+    let here = λ (t : slice_get used name ≡ Some true). some_and c.in_ok-standing.standing _
+    (c.in_ok-standing.ensures.exact (get_or_from_slice_get used name true _ t)) in
     record {
       empty = ap (λ (v : Members). v.names) kept ∙ c.loop-name.invariant.empty;
       bound = ap (λ (v : Members). v.bound) kept ∙ c.loop-name.invariant.bound;
       size = ap length pushed ∙ length_push items c.in_ok-standing.standing ∙ ap (λ n. n + 1) c.loop-name.invariant.size;
       right = λ a l t. elim (cases_eq a name) [
         | inl e ↦
-            let w = here (subst (λ x. slice_get used x ≡ Some true) e t) in
-            (w.0, ap (λ xs. slice_get xs a) pushed ∙ ap (slice_get (items ++ c.in_ok-standing.standing ∷ [])) e ∙ slice_get-push items c.in_ok-standing.standing name c.loop-name.invariant.size ∙ ap Some w.1, subst (λ x. IsStanding axioms c.args.concept x w.0) (sym e) (w.2 axioms (above, apart)))
+            let w = here (subst (λ x. slice_get used x ≡ Some true) e t) in (
+              w.0,
+              ap (λ xs. slice_get xs a) pushed ∙ ap (slice_get (items ++ c.in_ok-standing.standing ∷ [])) e
+                  ∙ slice_get-push items c.in_ok-standing.standing name c.loop-name.invariant.size ∙ ap Some w.1,
+              subst (λ x. IsStanding axioms c.args.concept x w.0) (sym e) (w.2 axioms (above, apart)),
+            )
         | inr n ↦
-            let w = c.loop-name.invariant.right a (omega (arith, l)) t in
-            (w.0, ap (λ xs. slice_get xs a) pushed ∙ slice_get-append_left items (c.in_ok-standing.standing ∷ []) a (omega (arith, l, c.loop-name.invariant.size)) ∙ w.1, w.2)
+            let w = c.loop-name.invariant.right a (omega (arith, l)) t in (
+              w.0,
+              ap (λ xs. slice_get xs a) pushed ∙ slice_get-append_left items (c.in_ok-standing.standing ∷ []) a
+                  (omega (arith, l, c.loop-name.invariant.size)) ∙ w.1,
+              w.2,
+            )
       ];
     }
 
@@ -65,4 +74,11 @@ returns-clause-exact c i a t e =
 
 pub returns-clause-size : goal.returns-clause-size
 returns-clause-size c =
-    omega (arith, c.loop-name.invariant.size, c.loop-name.auto.name-end, c.loop-name-test.false, ap length c.deref-is_used-items.ensures.value, c.in_ok-used.ensures.size)
+    omega (
+      arith,
+      c.loop-name.invariant.size,
+      c.loop-name.auto.name-end,
+      c.loop-name-test.false,
+      ap length c.deref-is_used-items.ensures.value,
+      c.in_ok-used.ensures.size,
+    )

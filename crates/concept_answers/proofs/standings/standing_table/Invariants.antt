@@ -8,5 +8,6 @@ invariant-loop-name l = record {
   empty : l.reached.names ≡ [];
   bound : l.reached.bound ≡ l.concepts;
   size : length l.table.items ≡ l.name;
-  right : (a : ℕ) → a < l.name → slice_get l.is_used-items a ≡ Some true → (standing : Standing) × (slice_get l.table.items a ≡ Some (Some standing)) × IsStanding l.kb.axioms l.concept a standing;
+  right : (a : ℕ) → a < l.name → slice_get l.is_used-items a ≡ Some true → (standing : Standing) × (slice_get l.table.items a ≡ Some (Some standing))
+      × IsStanding l.kb.axioms l.concept a standing;
 }

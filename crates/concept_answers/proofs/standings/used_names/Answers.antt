@@ -20,15 +20,21 @@ loop-fact-preserved c =
     elim c.match-fact.branch [
       | in-Concept w ↦
           let p = w.in-Concept.pred in
-          let within : p < length c.loop-fact.used.items = omega (arith, c.requires.named i p w.in-Concept.ind (slice_get-get_or facts i (fact.Concept 0 0) c.loop-fact-test.true ∙ ap Some w.in-Concept.is), c.loop-fact.invariant.size) in
+          let within : p < length c.loop-fact.used.items = omega (
+            arith,
+            c.requires.named i p w.in-Concept.ind (slice_get-get_or facts i (fact.Concept 0 0) c.loop-fact-test.true ∙ ap Some w.in-Concept.is),
+            c.loop-fact.invariant.size,
+          ) in
           rw w.used-is (record {
             size = length-set c.loop-fact.used.items p true ∙ c.loop-fact.invariant.size;
-            marked = AreUsedBelow-more facts i (fact.Concept 0 0) c.loop-fact.used.items p w.in-Concept.ind c.loop-fact-test.true w.in-Concept.is within c.loop-fact.invariant.marked;
+            marked = AreUsedBelow-more facts i (fact.Concept 0 0) c.loop-fact.used.items p w.in-Concept.ind c.loop-fact-test.true w.in-Concept.is within
+                c.loop-fact.invariant.marked;
           })
       | in_default w ↦
           rw w.used-is (record {
             size = c.loop-fact.invariant.size;
-            marked = AreUsedBelow-skip facts i (fact.Concept 0 0) c.loop-fact.used.items c.loop-fact-test.true w.in_default.not-Concept c.loop-fact.invariant.marked;
+            marked = AreUsedBelow-skip facts i (fact.Concept 0 0) c.loop-fact.used.items c.loop-fact-test.true w.in_default.not-Concept
+                c.loop-fact.invariant.marked;
           })
     ]
 

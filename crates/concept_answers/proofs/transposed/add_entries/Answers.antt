@@ -11,7 +11,8 @@ loop-other-preserved c =
     let at = get_or others i 0 in
     let below = c.requires.within i 0 c.loop-other-test.true in
     let exact = c.in_ok-add_entry.ensures.exact in
-    let adds = AddsPairsTo-more others i c.args.name at c.args.lists.now c.loop-other.lists c.loop-other-test.true refl (omega (arith, below, c.loop-other.invariant.size)) c.loop-other.invariant.adds in
+    let adds = AddsPairsTo-more others i c.args.name at c.args.lists.now c.loop-other.lists c.loop-other-test.true refl
+    (omega (arith, below, c.loop-other.invariant.size)) c.loop-other.invariant.adds in
     record {
       adds = subst (AddsPairsTo (take (i + 1) others) c.args.name c.args.lists.now) (sym exact) adds;
       size = ap length exact ∙ length-set c.loop-other.lists at _ ∙ c.loop-other.invariant.size;
@@ -19,5 +20,6 @@ loop-other-preserved c =
 
 pub returns : goal.returns
 returns c = record {
-  exact = subst (λ ns. AddsPairsTo ns c.args.name c.args.lists.now c.loop-other.lists) (take_all c.loop-other.other-index c.args.others.now c.loop-other-test.false) c.loop-other.invariant.adds;
+  exact = subst (λ ns. AddsPairsTo ns c.args.name c.args.lists.now c.loop-other.lists)
+      (take_all c.loop-other.other-index c.args.others.now c.loop-other-test.false) c.loop-other.invariant.adds;
 }

@@ -21,9 +21,11 @@ loop-name-preserved c =
     let entries = read_at lists name c.index-lists-name.result [] c.as_slice.result.now c.loop-name-test.true c.index-lists-name.is c.as_slice.ensures.lent in
     let adds = subst (λ old. AddsPairsTo c.as_slice.result.now name old new) c.deref_mut.ensures.value c.in_ok-add_entries.ensures.exact in
     let size : length new ≡ length lists = c.add_entries.auto.lists ∙ ap length c.deref_mut.ensures.value ∙ c.loop-name.invariant.size in
-    let back = written_back new c.loop-name.transposed.items c.loop-name.transposed.len (omega (arith, size, c.loop-name.invariant.size, c.loop-name.transposed.ok.0)) in
+    let back = written_back new c.loop-name.transposed.items c.loop-name.transposed.len
+    (omega (arith, size, c.loop-name.invariant.size, c.loop-name.transposed.ok.0)) in
     record {
-      pairs = subst (AreTransposedBelow lists (name + 1)) (sym back) (AreTransposedBelow-more lists name c.as_slice.result.now c.loop-name.transposed.items new entries adds c.loop-name.invariant.pairs);
+      pairs = subst (AreTransposedBelow lists (name + 1)) (sym back)
+          (AreTransposedBelow-more lists name c.as_slice.result.now c.loop-name.transposed.items new entries adds c.loop-name.invariant.pairs);
       size = ap length back ∙ size;
     }
 
@@ -32,4 +34,5 @@ returns-clause-exact c = AreTransposed-all c.args.lists.now c.loop-name.transpos
 
 pub returns-clause-within : goal.returns-clause-within
 returns-clause-within c =
-    AreWithin-transposed c.args.lists.now c.loop-name.transposed.items (length c.args.lists.now) refl c.loop-name.invariant.size (AreTransposed-all c.args.lists.now c.loop-name.transposed.items c.loop-name.name c.loop-name-test.false c.loop-name.invariant.pairs)
+    AreWithin-transposed c.args.lists.now c.loop-name.transposed.items (length c.args.lists.now) refl c.loop-name.invariant.size
+    (AreTransposed-all c.args.lists.now c.loop-name.transposed.items c.loop-name.name c.loop-name-test.false c.loop-name.invariant.pairs)

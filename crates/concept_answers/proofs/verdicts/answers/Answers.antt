@@ -14,7 +14,10 @@ if_ok (Err e) P Q p f = tt
 pub returns : goal.returns
 returns c = record {
   exact = λ concept tables.
-      let answers = answers_of c.args.kb.now concept (length c.args.table.now) c.args.individuals c.requires.names c.requires.facts c.in_ok-findings.findings.items (c.in_ok-findings.ensures.exact concept tables) in
-      if_ok c.collected.result _ _ c.collected.ensures.exact (λ v e. subst (AreAnswers c.args.kb.now (concept_query concept)) (sym (e ∙ ap present c.deref.ensures.value)) answers);
-  few = if_ok c.collected.result _ _ c.collected.ensures.exact (λ v e. omega (arith, ap length (e ∙ ap present c.deref.ensures.value), length-present c.in_ok-findings.findings.items, c.in_ok-findings.ensures.size));
+      let answers = answers_of c.args.kb.now concept (length c.args.table.now) c.args.individuals c.requires.names c.requires.facts
+      c.in_ok-findings.findings.items (c.in_ok-findings.ensures.exact concept tables) in
+      if_ok c.collected.result _ _ c.collected.ensures.exact (λ v e. subst (AreAnswers c.args.kb.now (concept_query concept))
+      (sym (e ∙ ap present c.deref.ensures.value)) answers);
+  few = if_ok c.collected.result _ _ c.collected.ensures.exact
+      (λ v e. omega (arith, ap length (e ∙ ap present c.deref.ensures.value), length-present c.in_ok-findings.findings.items, c.in_ok-findings.ensures.size));
 }

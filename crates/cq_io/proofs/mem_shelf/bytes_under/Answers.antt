@@ -12,4 +12,5 @@ pub returns : goal.returns
 returns c =
     let found : place_of c.args.files.now c.args.name.now ≡ Some c.in_ok-place.place = sym c.place_of.ensures ∙ c.in_ok-place.was in
     let file = c.index-files-place.result in
-    rw c.bytes.ensures (ap (λ (pair : List ℕ × List ℕ). Some pair.1) c.index-files-place.is ∙ sym (bytes_under-place c.args.files.now c.args.name.now c.in_ok-place.place file found))
+    rw c.bytes.ensures (ap (λ (pair : List ℕ × List ℕ). Some pair.1) c.index-files-place.is
+    ∙ sym (bytes_under-place c.args.files.now c.args.name.now c.in_ok-place.place file found))

@@ -10,5 +10,7 @@ loop-count-preserved g c =
     let bytes = c.args.bytes.now in
     let count = c.loop-count.count in
     let more = c.in-Ok.more in
-    let joined = sym (take-add count more bytes ∙ ap (λ rest. take count bytes ++ take more rest) (sym (take_rest bytes count))) in
-    (omega (arith, c.in-Ok.ensures.bound, length-drop count bytes), subst (Appends _ _) joined (Appends-trans _ _ _ _ _ c.loop-count.invariant.1 c.in-Ok.ensures.bytes))
+    let joined = sym (take-add count more bytes ∙ ap (λ rest. take count bytes ++ take more rest) (sym (take_rest bytes count))) in (
+      omega (arith, c.in-Ok.ensures.bound, length-drop count bytes),
+      subst (Appends _ _) joined (Appends-trans _ _ _ _ _ c.loop-count.invariant.1 c.in-Ok.ensures.bytes),
+    )

@@ -12,4 +12,5 @@ loop-number-preserved c = λ before.
     subst (AreSuccessorsBefore c.args.axioms.now c.args.query.now (move.Axiom c.args.atom (c.loop-number.number + 1))) (sym c.in_ok-note.ensures) tried
 
 pub returns : goal.returns
-returns c = λ before. atom_done c.args.axioms.now c.args.query.now c.args.atom c.loop-number.number c.loop-number.found.items c.loop-number-test.false (c.loop-number.invariant before)
+returns c = λ before. atom_done c.args.axioms.now c.args.query.now c.args.atom c.loop-number.number c.loop-number.found.items c.loop-number-test.false
+    (c.loop-number.invariant before)

@@ -18,6 +18,7 @@ returns c =
       exact = (
         record { head = c.args.query.now.head; body = slice_set c.args.query.now.body c.args.atom c.in-Some.new },
         (_, c.in-Some.new, slice_get-get_or c.args.query.now.body c.args.atom _ c.requires.place, step, refl),
-        rw (c.in_ok-head.ensures.items, c.head.ensures.lent, c.deref.ensures.value, c.in_ok-body.ensures, c.body-atoms.ensures.lent) at c.in_ok-made.ensures.exact,
+        rw (c.in_ok-head.ensures.items, c.head.ensures.lent, c.deref.ensures.value, c.in_ok-body.ensures, c.body-atoms.ensures.lent) at
+            c.in_ok-made.ensures.exact,
       );
     }

@@ -11,7 +11,15 @@ normal_of-requires c =
     let step = rw c.body-atoms.ensures.lent at c.in-Some.ensures in
     let f = term_under c.in-Some.unified in
     record {
-      safe = rw (c.in_ok-head.ensures, c.head.ensures.lent, c.deref.ensures.value, c.with_one_for_two-body.ensures, c.in_ok-under.ensures, c.body-atoms.ensures.lent, without-map (map_atom f) c.args.query.now.body c.args.second)
+      safe = rw (
+        c.in_ok-head.ensures,
+        c.head.ensures.lent,
+        c.deref.ensures.value,
+        c.with_one_for_two-body.ensures,
+        c.in_ok-under.ensures,
+        c.body-atoms.ensures.lent,
+        without-map (map_atom f) c.args.query.now.body c.args.second,
+      )
           (reduce_step_is_safe c.args.query.now c.args.first c.args.second _ f c.in-Some.unified.atom c.requires.order c.requires.place
           (Unifies-from _ _ _ _ step) c.body-atoms.ensures.safe);
     }
@@ -23,7 +31,11 @@ returns c =
     let first_in : c.args.first < length c.args.query.now.body = omega (arith, c.requires.order, c.requires.place) in
     record {
       exact = (
-        record { head = map f c.args.query.now.head; body = slice_set (map (map_atom f) (without c.args.query.now.body c.args.second)) c.args.first c.in-Some.unified.atom },
+        record {
+          head = map f c.args.query.now.head;
+          body = slice_set (map (map_atom f) (without c.args.query.now.body c.args.second)) c.args.first
+              c.in-Some.unified.atom;
+        },
         (
           _,
           _,
@@ -35,7 +47,15 @@ returns c =
           step,
           refl,
         ),
-        rw (c.in_ok-head.ensures, c.head.ensures.lent, c.deref.ensures.value, c.with_one_for_two-body.ensures, c.in_ok-under.ensures, c.body-atoms.ensures.lent, without-map (map_atom f) c.args.query.now.body c.args.second)
+        rw (
+          c.in_ok-head.ensures,
+          c.head.ensures.lent,
+          c.deref.ensures.value,
+          c.with_one_for_two-body.ensures,
+          c.in_ok-under.ensures,
+          c.body-atoms.ensures.lent,
+          without-map (map_atom f) c.args.query.now.body c.args.second,
+        )
             at c.in_ok-made.ensures.exact,
       );
     }

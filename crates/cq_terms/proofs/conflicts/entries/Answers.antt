@@ -13,5 +13,6 @@ loop-clash-preserved c =
           rw w.entries-is (w.in_ok-push_both.ensures.exact
           ∙ ap (λ (xs : List KeyedNumber). xs ++ both_ways (w.in-Some.lower, w.in-Some.upper)) c.loop-clash.invariant
           ∙ entries_yes (take c.loop-clash.clash-index c.args.clashes.now) c.clash-item.result (w.in-Some.lower, w.in-Some.upper) w.in-Some.ensures)
-      | in_default w ↦ rw w.entries-is (c.loop-clash.invariant ∙ entries_no (take c.loop-clash.clash-index c.args.clashes.now) c.clash-item.result w.in_default.ensures)
+      | in_default w ↦ rw w.entries-is (c.loop-clash.invariant ∙ entries_no (take c.loop-clash.clash-index c.args.clashes.now) c.clash-item.result
+          w.in_default.ensures)
     ])

@@ -8,6 +8,7 @@ loop-clash-preserved c =
     rw next (elim c.match-own_fact.branch [
       | in-Some w ↦
           let each = c.requires.kept.each c.loop-clash.clash-index c.clash-item.result c.loop-clash-test.true in
-          rw w.marks-is (marks_yes _ _ c.clash-item.result _ w.in-Some.own c.loop-clash.invariant w.in-Some.ensures (single_below c.args.facts c.clash-item.result.facts w.in-Some.own (rw (← c.clash-item.is) at each) w.in-Some.ensures))
+          rw w.marks-is (marks_yes _ _ c.clash-item.result _ w.in-Some.own c.loop-clash.invariant w.in-Some.ensures
+          (single_below c.args.facts c.clash-item.result.facts w.in-Some.own (rw (← c.clash-item.is) at each) w.in-Some.ensures))
       | in_default w ↦ rw w.marks-is (marks_no _ _ c.clash-item.result _ c.loop-clash.invariant w.in_default.ensures)
     ])

@@ -7,4 +7,5 @@ returns-in_err-get-clause-none c = rw c.from_residual.ensures (λ all. some_fiel
 
 pub returns-clause-none : goal.returns-clause-none
 returns-clause-none c =
-    rw c.ok.ensures.value (none_of_err c.from_utf8.result _ _ _ c.from_utf8.ensures.cases (λ e h. not_texts _ c.args.place c.in_ok-get.field-0.now (sym c.in_ok-get.ensures.value) h.0))
+    rw c.ok.ensures.value (none_of_err c.from_utf8.result _ _ _ c.from_utf8.ensures.cases
+    (λ e h. not_texts _ c.args.place c.in_ok-get.field-0.now (sym c.in_ok-get.ensures.value) h.0))

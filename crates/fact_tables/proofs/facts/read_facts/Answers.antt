@@ -28,10 +28,12 @@ returns-in_err-take_record-clause-refused c =
     rw (is, same) (refuse _ _ _ _ _ _ _ c.loop-table.invariant (c.in_ok-next.ensures.found c.if-branch.true) _ c.in_err-take_record.ensures.refused)
 
 pub returns-in_err-take_record-clause-kept : goal.returns-in_err-take_record-clause-kept
-returns-in_err-take_record-clause-kept c = kept_after _ _ _ _ _ _ _ c.loop-table.invariant (c.in_ok-next.ensures.found c.if-branch.true) _ c.in_err-take_record.ensures.kept
+returns-in_err-take_record-clause-kept c = kept_after _ _ _ _ _ _ _ c.loop-table.invariant (c.in_ok-next.ensures.found c.if-branch.true) _
+    c.in_err-take_record.ensures.kept
 
 pub returns-in_err-take_record-clause-grown : goal.returns-in_err-take_record-clause-grown
-returns-in_err-take_record-clause-grown c = grown_after _ _ _ _ _ _ _ c.loop-table.invariant (c.in_ok-next.ensures.found c.if-branch.true) _ c.in_err-take_record.ensures.grown
+returns-in_err-take_record-clause-grown c = grown_after _ _ _ _ _ _ _ c.loop-table.invariant (c.in_ok-next.ensures.found c.if-branch.true) _
+    c.in_err-take_record.ensures.grown
 
 pub returns-clause-numbered : goal.returns-clause-numbered
 returns-clause-numbered c = all_numbered _ _ _ _ _ c.loop-table.invariant

@@ -9,4 +9,5 @@ pub returns-in_err-get-clause-none : goal.returns-in_err-get-clause-none
 returns-in_err-get-clause-none c = rw c.from_residual.ensures (λ all. some_field _ _ c.requires.within c.in_err-get.ensures.value)
 
 pub returns-clause-none : goal.returns-clause-none
-returns-clause-none c = none_said _ c.args.place _ c.requires.within (c.number_in.ensures.exact ∙ ap (λ o. capped (option_and_then number_in o)) c.in_ok-get.ensures.value)
+returns-clause-none c = none_said _ c.args.place _ c.requires.within
+    (c.number_in.ensures.exact ∙ ap (λ o. capped (option_and_then number_in o)) c.in_ok-get.ensures.value)

@@ -4,7 +4,8 @@ use Rattle.fact_tables.proofs.pairs.read_pairs.Goals as goal
 
 pub loop-pairs-preserved : goal.loop-pairs-preserved
 loop-pairs-preserved c =
-    step _ _ _ _ _ _ c.loop-pairs.invariant (c.in_ok-next.ensures.found c.if-branch.true) c.in_ok-pair.pair _ c.in_ok-pair.ensures.right c.in_ok-pair.ensures.exact (λ e. c.if-len-eq-MOST_PAIRS.false (c.len-in-loop-pairs.ensures ∙ c.loop-pairs.pairs.ok.0 ∙ e)) c.in_ok-push.ensures.items
+    step _ _ _ _ _ _ c.loop-pairs.invariant (c.in_ok-next.ensures.found c.if-branch.true) c.in_ok-pair.pair _ c.in_ok-pair.ensures.right
+    c.in_ok-pair.ensures.exact (λ e. c.if-len-eq-MOST_PAIRS.false (c.len-in-loop-pairs.ensures ∙ c.loop-pairs.pairs.ok.0 ∙ e)) c.in_ok-push.ensures.items
 
 pub returns-clause-exact : goal.returns-clause-exact
 returns-clause-exact c =

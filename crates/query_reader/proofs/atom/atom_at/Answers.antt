@@ -15,11 +15,13 @@ returns-in_err-after-clause-fault c =
 pub returns-in_err-first-clause-fault : goal.returns-in_err-first-clause-fault
 returns-in_err-first-clause-fault c =
     passed _ c.from_residual-in_err-first.result _ c.from_residual-in_err-first.ensures.1
-    (fault_later at.AtomName (name c.in_ok-name.name.now) _ _ _ refl c.in_ok-name.ensures.found (fault_later at.Opening opening _ _ _ refl c.in_ok-after.ensures.found (fault_here at.FirstTerm _ _ c.in_err-first.ensures.fault)))
+    (fault_later at.AtomName (name c.in_ok-name.name.now) _ _ _ refl c.in_ok-name.ensures.found
+    (fault_later at.Opening opening _ _ _ refl c.in_ok-after.ensures.found (fault_here at.FirstTerm _ _ c.in_err-first.ensures.fault)))
 
 pub returns-in_err-second-clause-fault : goal.returns-in_err-second-clause-fault
 returns-in_err-second-clause-fault c =
     let first = term_token (term_view c.in_ok-first.first) in
     passed _ c.from_residual-in_err-second.result _ c.from_residual-in_err-second.ensures.1
     (fault_later at.AtomName (name c.in_ok-name.name.now) _ _ _ refl c.in_ok-name.ensures.found
-    (fault_later at.Opening opening _ _ _ refl c.in_ok-after.ensures.found (fault_later at.FirstTerm first _ _ _ (first_may _) c.in_ok-first.ensures.found c.in_err-second.ensures.fault)))
+    (fault_later at.Opening opening _ _ _ refl c.in_ok-after.ensures.found
+    (fault_later at.FirstTerm first _ _ _ (first_may _) c.in_ok-first.ensures.found c.in_err-second.ensures.fault)))

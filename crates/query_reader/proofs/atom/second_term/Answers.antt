@@ -18,4 +18,5 @@ returns-in_err-after-clause-fault c =
     let mark = comma_stands _ _ (sym c.after_gap-next.ensures.exact ∙ c.in-Some-mark_at.ensures.found) in
     let second = term_token (term_view c.in_ok-second.second) in
     passed _ c.from_residual-in_err-after.result _ c.from_residual-in_err-after.ensures.1
-    (fault_later at.BehindFirst comma _ _ _ refl mark (fault_later at.SecondTerm second _ _ _ (second_may _) c.in_ok-second.ensures.found (fault_here at.Closing _ _ c.in_err-after.ensures.fault)))
+    (fault_later at.BehindFirst comma _ _ _ refl mark (fault_later at.SecondTerm second _ _ _ (second_may _) c.in_ok-second.ensures.found
+    (fault_here at.Closing _ _ c.in_err-after.ensures.fault)))

@@ -22,12 +22,15 @@ returns-in_default-clause-grown c = put_grown _ _ _ _ _ _ _ _ c.atoms.invariant 
 
 pub returns-in_err-next-clause-halt : goal.returns-in_err-next-clause-halt
 returns-in_err-next-clause-halt c =
-    let part = body_atom _ _ _ _ _ _ _ _ _ _ c.atoms.invariant c.in_ok-atom.ensures.found c.in_ok-put_atom.ensures.names c.in_ok-put_atom.ensures.exact c.in_ok-put_atom.ensures.kept c.in_ok-put_atom.ensures.grown c.in_ok-push.ensures.items in
-    passed _ c.from_residual-in_err-next.result _ c.from_residual-in_err-next.ensures.1 (part.faults _ (fault_here at.BehindAtom _ _ c.in_err-next.ensures.fault))
+    let part = body_atom _ _ _ _ _ _ _ _ _ _ c.atoms.invariant c.in_ok-atom.ensures.found c.in_ok-put_atom.ensures.names c.in_ok-put_atom.ensures.exact
+    c.in_ok-put_atom.ensures.kept c.in_ok-put_atom.ensures.grown c.in_ok-push.ensures.items in
+    passed _ c.from_residual-in_err-next.result _ c.from_residual-in_err-next.ensures.1
+    (part.faults _ (fault_here at.BehindAtom _ _ c.in_err-next.ensures.fault))
 
 pub returns-in_default-clause-found : goal.returns-in_default-clause-found
 returns-in_default-clause-found c =
-    let part = body_atom _ _ _ _ _ _ _ _ _ _ c.atoms.invariant c.in_ok-atom.ensures.found c.in_ok-put_atom.ensures.names c.in_ok-put_atom.ensures.exact c.in_ok-put_atom.ensures.kept c.in_ok-put_atom.ensures.grown c.in_ok-push.ensures.items in
+    let part = body_atom _ _ _ _ _ _ _ _ _ _ c.atoms.invariant c.in_ok-atom.ensures.found c.in_ok-put_atom.ensures.names c.in_ok-put_atom.ensures.exact
+    c.in_ok-put_atom.ensures.kept c.in_ok-put_atom.ensures.grown c.in_ok-push.ensures.items in
     body_all _ _ _ _ _ part (rw c.in_default.is at c.in_ok-next.ensures.found)
 
 pub atoms-smaller : goal.atoms-smaller
@@ -35,5 +38,6 @@ atoms-smaller c = both_shorter _ _ _ _ c.in_ok-atom.ensures.found (rw c.in-Some.
 
 pub atoms-preserved : goal.atoms-preserved
 atoms-preserved c =
-    let part = body_atom _ _ _ _ _ _ _ _ _ _ c.atoms.invariant c.in_ok-atom.ensures.found c.in_ok-put_atom.ensures.names c.in_ok-put_atom.ensures.exact c.in_ok-put_atom.ensures.kept c.in_ok-put_atom.ensures.grown c.in_ok-push.ensures.items in
+    let part = body_atom _ _ _ _ _ _ _ _ _ _ c.atoms.invariant c.in_ok-atom.ensures.found c.in_ok-put_atom.ensures.names c.in_ok-put_atom.ensures.exact
+    c.in_ok-put_atom.ensures.kept c.in_ok-put_atom.ensures.grown c.in_ok-push.ensures.items in
     body_more _ _ _ _ _ _ part (rw c.in-Some.is at c.in_ok-next.ensures.found)

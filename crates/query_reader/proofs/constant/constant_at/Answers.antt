@@ -8,7 +8,8 @@ use Rattle.query_reader.proofs.constant.constant_at.Goals as goal
 
 pub returns-in_err-after-clause-none : goal.returns-in_err-after-clause-none
 returns-in_err-after-clause-none c =
-    rw c.from_residual-in_err-after.ensures (λ meant after stands. c.in_err-after.ensures.none after (front_constant _ _ _ _ c.in_ok-mark_at.ensures.found c.split_inside.ensures.exact meant after stands).1)
+    rw c.from_residual-in_err-after.ensures (λ meant after stands. c.in_err-after.ensures.none after
+    (front_constant _ _ _ _ c.in_ok-mark_at.ensures.found c.split_inside.ensures.exact meant after stands).1)
 
 pub returns-then-is_empty-clause-none : goal.returns-then-is_empty-clause-none
 returns-then-is_empty-clause-none c =
@@ -16,7 +17,8 @@ returns-then-is_empty-clause-none c =
 
 pub returns-in-Ok-clause-found : goal.returns-in-Ok-clause-found
 returns-in-Ok-clause-found c =
-    constant_stands _ _ _ _ c.in_ok-mark_at.ensures.found c.split_inside.ensures.exact _ _ c.in_ok-after.ensures.found (some_are _ c.if-is_empty.ensures) c.in-Ok.ensures.cases.0 c.in-Ok.ensures.cases.1
+    constant_stands _ _ _ _ c.in_ok-mark_at.ensures.found c.split_inside.ensures.exact _ _ c.in_ok-after.ensures.found (some_are _ c.if-is_empty.ensures)
+    c.in-Ok.ensures.cases.0 c.in-Ok.ensures.cases.1
 
 pub returns-in-Ok-clause-written : goal.returns-in-Ok-clause-written
 returns-in-Ok-clause-written c =

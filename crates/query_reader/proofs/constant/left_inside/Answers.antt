@@ -7,10 +7,17 @@ use Rattle.query_reader.proofs.constant.left_inside.Goals as goal
 
 pub returns-in-Ok : goal.returns-in-Ok
 returns-in-Ok c = record {
-  exact = λ place may. inl (in_constant may _ (subst (HasInside _ _) (empty_is _ c.if-is_empty.ensures) c.split_inside.ensures.exact) c.in-Ok.ensures.cases.1, refl);
+  exact = λ place may. inl (
+    in_constant may _ (subst (HasInside _ _) (empty_is _ c.if-is_empty.ensures) c.split_inside.ensures.exact) c.in-Ok.ensures.cases.1,
+    refl,
+  );
 }
 
 pub returns-in-Ok-2 : goal.returns-in-Ok-2
 returns-in-Ok-2 c = record {
-  exact = λ place may. inr (inr (no_end_inside _ _ _ c.split_inside.ensures.exact place (some_are _ c.if-is_empty.ensures), no_break_inside place _ _ _ c.split_inside.ensures.exact c.in-Ok-2.ensures.cases.1, omega arith));
+  exact = λ place may. inr (inr (
+    no_end_inside _ _ _ c.split_inside.ensures.exact place (some_are _ c.if-is_empty.ensures),
+    no_break_inside place _ _ _ c.split_inside.ensures.exact c.in-Ok-2.ensures.cases.1,
+    omega arith,
+  ));
 }

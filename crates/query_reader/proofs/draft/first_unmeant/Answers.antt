@@ -7,7 +7,8 @@ loop-term-init c = meant_none _ _
 
 pub returns-then-not-is_meant-clause-found : goal.returns-then-not-is_meant-clause-found
 returns-then-not-is_meant-clause-found c =
-    unmeant_at _ _ _ _ _ _ c.loop-term.invariant c.in-Some.ensures.cases.0 (λ meant. let both : false ≡ true = sym c.if-not-is_meant.true ∙ c.is_meant.ensures.exact.1 meant in cc both)
+    unmeant_at _ _ _ _ _ _ c.loop-term.invariant c.in-Some.ensures.cases.0
+    (λ meant. let both : false ≡ true = sym c.if-not-is_meant.true ∙ c.is_meant.ensures.exact.1 meant in cc both)
 
 pub loop-term-preserved : goal.loop-term-preserved
 loop-term-preserved c = meant_more _ _ _ _ _ _ c.loop-term.invariant c.in-Some.ensures.cases.0 (c.is_meant.ensures.exact.0 c.if-not-is_meant.false)

@@ -24,6 +24,9 @@ variables-preserved c =
     (λ place. IsHeadPart c.args.text.now place c.in_ok-letters.after.now c.put.new.self c.push.new.self.items c.repeat_with-repeated.result)
     (sym c.behind_variable-place.ensures.exact)
     (subst
-    (λ terms. IsHeadPart c.args.text.now (head_place (begins is_blank c.in_ok-letters.after.now)) c.in_ok-letters.after.now c.put.new.self terms c.repeat_with-repeated.result)
+    (λ terms. IsHeadPart c.args.text.now (head_place (begins is_blank c.in_ok-letters.after.now)) c.in_ok-letters.after.now c.put.new.self terms
+    c.repeat_with-repeated.result)
     (sym c.in_ok-push.ensures.items)
-    (head_more _ _ _ _ _ _ _ _ _ _ _ c.variables.invariant step.0 step.1 (subst (λ many. AddsRepeat c.variables.repeated c.variables.variables c.in-Some.letters.now many c.repeat_with-repeated.result) count c.repeat_with-repeated.ensures.exact) c.in_ok-put.ensures.exact c.in_ok-put.ensures.place))
+    (head_more _ _ _ _ _ _ _ _ _ _ _ c.variables.invariant step.0 step.1
+    (subst (λ many. AddsRepeat c.variables.repeated c.variables.variables c.in-Some.letters.now many c.repeat_with-repeated.result) count
+    c.repeat_with-repeated.ensures.exact) c.in_ok-put.ensures.exact c.in_ok-put.ensures.place))

@@ -7,6 +7,7 @@ returns-in-Some c = record {
   exact = record {
     none = c.requires.none;
     more = c.requires.more;
-    left_is = subst (λ bytes. IsLeft c.args.place bytes c.left_inside.result) (sym c.in-Some.ensures.found) (c.left_inside.ensures.exact c.args.place c.in-Some.ensures.takes);
+    left_is = subst (λ bytes. IsLeft c.args.place bytes c.left_inside.result) (sym c.in-Some.ensures.found)
+        (c.left_inside.ensures.exact c.args.place c.in-Some.ensures.takes);
   };
 }

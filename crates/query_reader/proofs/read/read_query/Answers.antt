@@ -22,7 +22,8 @@ returns-in-Ok-clause-exact c =
     subst
     (λ text. IfOk c.checked.result (λ query. IsQueryOf text c.args.vocab.now c.read_draft.new.vocab query))
     c.after_marks-text.ensures.exact
-    (both_ok c.checked.result _ _ _ (λ query same accepted. query_is _ _ _ _ query c.in-Ok.ensures.found accepted same) c.checked.ensures.exact c.checked.ensures.accepted)
+    (both_ok c.checked.result _ _ _ (λ query same accepted. query_is _ _ _ _ query c.in-Ok.ensures.found accepted same) c.checked.ensures.exact
+    c.checked.ensures.accepted)
 
 pub returns-in-Ok-clause-refused : goal.returns-in-Ok-clause-refused
 returns-in-Ok-clause-refused c =

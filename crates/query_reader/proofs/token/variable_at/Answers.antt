@@ -6,9 +6,11 @@ use Rattle.query_reader.proofs.RunLemmas.{runs_once, IsUtf8-letters, empty_is}
 use Rattle.query_reader.proofs.token.variable_at.Goals as goal
 
 -- the letters of a variable at the front are those behind the mark
-letters_are : (text later run rest letters after : List ℕ) → text ≡ 63 ∷ later → IsRun is_letter later run rest → Stands (variable letters) text after → letters ≡ run
+letters_are : (text later run rest letters after : List ℕ) → text ≡ 63 ∷ later → IsRun is_letter later run rest → Stands (variable letters) text after
+    → letters ≡ run
 letters_are text later run rest letters after later_is run_is stands =
-    (runs_once is_letter letters after run rest stands.valid.1 stands.ends run_is.all run_is.ends (ap (λ bytes. drop 1 bytes) (sym stands.whole ∙ later_is) ∙ run_is.whole)).0
+    (runs_once is_letter letters after run rest stands.valid.1 stands.ends run_is.all run_is.ends
+    (ap (λ bytes. drop 1 bytes) (sym stands.whole ∙ later_is) ∙ run_is.whole)).0
 
 pub returns-then-is_empty-clause-none : goal.returns-then-is_empty-clause-none
 returns-then-is_empty-clause-none c =

@@ -6,4 +6,5 @@ use Rattle.report_text.proofs.atoms.atoms_at.Given as goal
 
 -- the atoms so far go before what the rest of the items gives
 abbrev pub invariant-loop-item : goal.invariant-loop-item
-invariant-loop-item l = each_of atom_of (items_view l.items) ≡ option_map (λ rest. l.atoms.items ++ rest) (each_of atom_of (items_view (drop l.item-index l.items)))
+invariant-loop-item l = each_of atom_of (items_view l.items)
+    ≡ option_map (λ rest. l.atoms.items ++ rest) (each_of atom_of (items_view (drop l.item-index l.items)))

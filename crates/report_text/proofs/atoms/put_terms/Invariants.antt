@@ -7,4 +7,5 @@ use Rattle.report_text.proofs.atoms.put_terms.Given as goal
 -- what is written so far, and the text of what is left
 abbrev pub invariant-loop-term : goal.invariant-loop-term
 invariant-loop-term l =
-    string_bytes l.out ++ items_text l.later (items_of (map term_data (drop l.term-index l.terms))) ≡ string_bytes l.initial.out ++ items_text false (items_of (map term_data l.terms))
+    string_bytes l.out ++ items_text l.later (items_of (map term_data (drop l.term-index l.terms))) ≡ string_bytes l.initial.out
+    ++ items_text false (items_of (map term_data l.terms))

@@ -7,4 +7,5 @@ use Rattle.report_text.proofs.fields.put_id_lists.Given as goal
 -- what is written so far, and the text of what is left
 abbrev pub invariant-loop-list : goal.invariant-loop-list
 invariant-loop-list l =
-    string_bytes l.out ++ items_text l.later (items_of (map numbers_data (drop l.list-index l.lists))) ≡ string_bytes l.initial.out ++ items_text false (items_of (map numbers_data l.lists))
+    string_bytes l.out ++ items_text l.later (items_of (map numbers_data (drop l.list-index l.lists))) ≡ string_bytes l.initial.out
+    ++ items_text false (items_of (map numbers_data l.lists))

@@ -7,4 +7,5 @@ use Rattle.report_text.proofs.fields.put_ids.Given as goal
 -- what is written so far, and the text of what is left
 abbrev pub invariant-loop-id : goal.invariant-loop-id
 invariant-loop-id l =
-    string_bytes l.out ++ items_text l.later (items_of (map number_data (drop l.id-index l.ids))) ≡ string_bytes l.initial.out ++ items_text false (items_of (map number_data l.ids))
+    string_bytes l.out ++ items_text l.later (items_of (map number_data (drop l.id-index l.ids))) ≡ string_bytes l.initial.out
+    ++ items_text false (items_of (map number_data l.ids))

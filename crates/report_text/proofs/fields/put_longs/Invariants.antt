@@ -7,4 +7,5 @@ use Rattle.report_text.proofs.fields.put_longs.Given as goal
 -- what is written so far, and the text of what is left
 abbrev pub invariant-loop-long : goal.invariant-loop-long
 invariant-loop-long l =
-    string_bytes l.out ++ items_text l.later (items_of (map number_data (drop l.long-index l.longs))) ≡ string_bytes l.initial.out ++ items_text false (items_of (map number_data l.longs))
+    string_bytes l.out ++ items_text l.later (items_of (map number_data (drop l.long-index l.longs))) ≡ string_bytes l.initial.out
+    ++ items_text false (items_of (map number_data l.longs))

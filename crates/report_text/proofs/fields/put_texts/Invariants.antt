@@ -7,4 +7,5 @@ use Rattle.report_text.proofs.fields.put_texts.Given as goal
 -- what is written so far, and the text of what is left
 abbrev pub invariant-loop-text : goal.invariant-loop-text
 invariant-loop-text l =
-    string_bytes l.out ++ items_text l.later (items_of (map string (map string_bytes (drop l.text-index l.texts)))) ≡ string_bytes l.initial.out ++ items_text false (items_of (map string (map string_bytes l.texts)))
+    string_bytes l.out ++ items_text l.later (items_of (map string (map string_bytes (drop l.text-index l.texts)))) ≡ string_bytes l.initial.out
+    ++ items_text false (items_of (map string (map string_bytes l.texts)))

@@ -11,7 +11,8 @@ returns-then-index-clause-exact c =
     let ns = c.self.inside.names.items in
     let within : c.args.name < length m = subst (λ n. c.args.name < n) (sym (ap (λ (v : Members). v.bound) c.self.view_is)) c.requires.within in
     let t = slice_get_read m (length m) c.args.name c.index.result.now refl within c.index.ensures in
-    Members-kept c.args.self.now ns c.args.name (ap (λ (v : Members). v.names) c.self.view_is) (same_with_name m ns c.args.name c.self.invariant (t ∙ ap Some c.if-index.true))
+    Members-kept c.args.self.now ns c.args.name (ap (λ (v : Members). v.names) c.self.view_is)
+    (same_with_name m ns c.args.name c.self.invariant (t ∙ ap Some c.if-index.true))
 
 pub invariant_of-self-2 : goal.invariant_of-self-2
 invariant_of-self-2 c =

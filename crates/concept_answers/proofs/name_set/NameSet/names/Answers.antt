@@ -6,4 +6,5 @@ use Rattle.concept_answers.proofs.name_set.NameSet.names.Goals as goal
 pub returns-clause-within : goal.returns-clause-within
 returns-clause-within c =
     let m = c.self.inside.marks.items in
-    names_within_same m m c.self.inside.names.items c.args.self.now.names c.args.self.now.bound (sym (ap (λ (v : Members). v.names) c.self.view_is)) (ap (λ (v : Members). v.bound) c.self.view_is) c.self.invariant
+    names_within_same m m c.self.inside.names.items c.args.self.now.names c.args.self.now.bound (sym (ap (λ (v : Members). v.names) c.self.view_is))
+    (ap (λ (v : Members). v.bound) c.self.view_is) c.self.invariant

@@ -13,7 +13,8 @@ pub returns-clause-known : goal.returns-clause-known
 returns-clause-known c =
     let known : c.args.fact < c.self.inside.facts = subst (λ (g : ConflictGraph). c.args.fact < g.facts) (sym c.self.view_is) c.requires.known in
     rw (← c.self.view_is, c.list.ensures.lent)
-    (All-from_contains (λ (j : ℕ). j < c.self.inside.facts) _ (λ j h. in_conflict_below c.self.inside.facts c.self.inside.clashes.items c.args.fact j c.self.invariant.kept ((c.self.invariant.lists_exact c.args.fact known j).0 h)))
+    (All-from_contains (λ (j : ℕ). j < c.self.inside.facts) _ (λ j h. in_conflict_below c.self.inside.facts c.self.inside.clashes.items c.args.fact j
+    c.self.invariant.kept ((c.self.invariant.lists_exact c.args.fact known j).0 h)))
 
 pub returns-clause-few : goal.returns-clause-few
 returns-clause-few c = rw (← c.self.view_is) (entries_few c.self.inside.facts c.self.inside.clashes.items c.self.invariant.kept)

@@ -15,6 +15,9 @@ returns c =
     record {
       exact = rw (is, ← from) (record {
         ascending = AllPairs-from_increasing _ (IsStrictlyIncreasing-dedup _ c.sort_unstable.ensures.sorted);
-        same = λ i. ((λ h. Contains-permutation _ _ i (IsPermutation-sym _ _ moved) (Contains-from_dedup _ _ i h)), (λ h. Contains-dedup_nat _ i (Contains-permutation _ _ i moved h)));
+        same = λ i. (
+          (λ h. Contains-permutation _ _ i (IsPermutation-sym _ _ moved) (Contains-from_dedup _ _ i h)),
+          (λ h. Contains-dedup_nat _ i (Contains-permutation _ _ i moved h)),
+        );
       });
     }

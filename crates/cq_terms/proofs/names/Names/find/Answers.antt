@@ -7,7 +7,8 @@ use Rattle.cq_terms.proofs.names.Names.find.Goals as goal
 
 pub returns-in_err-id-clause-exact : goal.returns-in_err-id-clause-exact
 returns-in_err-id-clause-exact c =
-    rw (← c.self.view_is) (c.from_residual.ensures ∙ c.in_err-id.ensures.index ∙ sym (position-map string_bytes (bytes_eq c.args.text.now) c.self.inside.texts.keys))
+    rw (← c.self.view_is) (c.from_residual.ensures ∙ c.in_err-id.ensures.index
+    ∙ sym (position-map string_bytes (bytes_eq c.args.text.now) c.self.inside.texts.keys))
 
 pub returns-clause-exact : goal.returns-clause-exact
 returns-clause-exact c =

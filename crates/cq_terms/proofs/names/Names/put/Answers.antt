@@ -19,7 +19,8 @@ returns-in-Some-clause-place c =
 
 pub returns-clause-exact : goal.returns-clause-exact
 returns-clause-exact c =
-    rw (← c.self.view_is) (ap (map string_bytes) c.in_ok-id.ensures.keys ∙ texts-insert_key c.self.inside.texts.keys c.in_ok-owned.owned ∙ ap (with_text (map string_bytes c.self.inside.texts.keys)) c.in_ok-owned.ensures.ok)
+    rw (← c.self.view_is) (ap (map string_bytes) c.in_ok-id.ensures.keys ∙ texts-insert_key c.self.inside.texts.keys c.in_ok-owned.owned
+    ∙ ap (with_text (map string_bytes c.self.inside.texts.keys)) c.in_ok-owned.ensures.ok)
 
 pub returns-clause-place : goal.returns-clause-place
 returns-clause-place c =

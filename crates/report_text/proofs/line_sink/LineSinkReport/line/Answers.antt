@@ -11,7 +11,8 @@ returns-in-Ok-clause-added g c =
 pub returns-in-Err-clause-torn : goal.returns-in-Err-clause-torn
 returns-in-Err-clause-torn g c = line_kept-text c.replace.result c.args.line.now c.requires.form
     (ap string_bytes c.replace.ensures.value
-    ∙ text_without _ _ (text_of c.args.line.now) _ c.in_ok-make_bytes_of.ensures.exact (sym c.as_bytes.ensures.len ∙ ap length c.as_bytes.ensures.value) c.pop.ensures.ascii_bytes)
+    ∙ text_without _ _ (text_of c.args.line.now) _ c.in_ok-make_bytes_of.ensures.exact (sym c.as_bytes.ensures.len ∙ ap length c.as_bytes.ensures.value)
+    c.pop.ensures.ascii_bytes)
 
 pub returns-in-Err-clause-unchanged : goal.returns-in-Err-clause-unchanged
 returns-in-Err-clause-unchanged g c =
