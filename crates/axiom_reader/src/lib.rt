@@ -8,8 +8,6 @@ mod name;
 mod put;
 mod read;
 mod refusal;
-#[cfg(test)]
-mod tests;
 mod words;
 
 pub use law::{first_appearance, one_reading};

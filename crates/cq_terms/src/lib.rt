@@ -23,6 +23,3 @@ pub use lists::{IdLists, Ids, Longs, Texts, has_sorted};
 pub use memory::NoMemory;
 pub use names::{Names, Vocab};
 pub use query::{Cq, QAtom, Term};
-
-#[cfg(test)]
-mod tests;

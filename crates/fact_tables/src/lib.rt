@@ -9,8 +9,6 @@ mod number;
 mod pairs;
 mod refusal;
 mod rows;
-#[cfg(test)]
-mod tests;
 
 pub use fact_table::FactTable;
 pub use facts::read_facts;

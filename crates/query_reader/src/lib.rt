@@ -12,8 +12,6 @@ mod numbering;
 mod place;
 mod read;
 mod refusal;
-#[cfg(test)]
-mod tests;
 mod token;
 
 pub use law::laws_of_the_grammar;

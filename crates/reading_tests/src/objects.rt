@@ -5,7 +5,7 @@ ghost use Rattle.cq_io.specs.Faults.{Rose};
 ghost use Rattle.cq_io.specs.Fetching.{size_of, fetched};
 ghost use Rattle.cq_io.specs.Writing.{appended};
 
-use crate::{
+use cq_io::{
     Failed, FetchFault, FileShelf, MemShelf, MemSink, NullSink, Shelf, Sink, Size, StdSink,
 };
 use std::alloc::Global;

@@ -2,8 +2,8 @@
 
 ghost use Rattle.std.specs.Prelude.{◌<◌, ◌^◌, length};
 
-use crate::{FactRefusal, FactTable, PairRefusal, one_reading, read_facts, read_pairs};
 use cq_terms::{Fact, Pair, Vocab};
+use fact_tables::{FactRefusal, FactTable, PairRefusal, one_reading, read_facts, read_pairs};
 use std::alloc::Global;
 use std::test::Fail;
 

@@ -2,7 +2,7 @@
 
 ghost use Rattle.std.specs.Prelude.{◌≡◌, ◌∷◌, [], IfOk};
 
-use crate::{Clash, Conflicts, Ids, NoMemory};
+use cq_terms::{Clash, Conflicts, Ids, NoMemory};
 use std::alloc::Global;
 use std::test::Fail;
 

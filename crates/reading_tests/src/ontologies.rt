@@ -1,6 +1,6 @@
 //! What no clause says: that memory is enough for a small text, and some lines with what they give.
 
-use crate::{AxiomRefusal, first_appearance, is_name, one_reading, read_axioms};
+use axiom_reader::{AxiomRefusal, first_appearance, is_name, one_reading, read_axioms};
 use cq_terms::{Axiom, Basic, Role, Vocab};
 use std::test::Fail;
 

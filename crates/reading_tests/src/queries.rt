@@ -1,7 +1,7 @@
 //! What no clause says: that memory is enough for a small text, and which refusal some texts get.
 
-use crate::{QueryRefusal, laws_of_the_grammar, read_query};
 use cq_terms::{QAtom, Term, Vocab};
+use query_reader::{QueryRefusal, laws_of_the_grammar, read_query};
 use std::test::Fail;
 
 #[test]
