@@ -16,19 +16,18 @@ mod head;
 mod learn;
 mod line;
 mod line_sink;
-#[cfg(test)]
-mod made_lines;
 mod pieces;
 mod printing;
 mod reading;
 mod report;
-#[cfg(test)]
-mod tests;
 mod try_line;
 
 pub use line::{How, Line, Origin, Question, Verdict};
 pub use line_sink::{LineSink, bytes_tell_their_lines};
 pub use pieces::laws_of_pieces;
 pub use printing::print;
-pub use reading::{ReadRefusal, equal_texts_are_of_equal_lines, read, texts_have_no_line_feed};
+pub use reading::{
+    ReadRefusal, equal_texts_are_of_equal_lines, read, read_at_once, read_by_value,
+    texts_have_no_line_feed,
+};
 pub use report::{LineFault, Report};

@@ -59,7 +59,7 @@ pub fn read(alloc: Global, bytes: &[u8]) -> Result<Line, ReadRefusal>
 }
 
 /// The line whose text the bytes are, where it is found with no JSON value: it is of one of the kinds
-/// that are many, and no name needs an escape.
+/// that are many, and no name needs an escape. `read` tries this first.
 pub fn read_at_once(alloc: Global, bytes: &[u8]) -> Result<Option<Line>, NoMemory>
     ensures exact { IfOk result
         (λ o. IfSome o (λ line. IsWellFormed line × (bytes.now ≡ text_of line))) }
@@ -71,7 +71,8 @@ pub fn read_at_once(alloc: Global, bytes: &[u8]) -> Result<Option<Line>, NoMemor
     if same { Ok(Some(line)) } else { Ok(None) }
 }
 
-/// The line whose text the bytes are, of any kind, and whatever the names have.
+/// The line whose text the bytes are, of any kind, and whatever the names have. It answers as `read`
+/// does, more slowly, and is public so that the two can be compared.
 pub fn read_by_value(alloc: Global, bytes: &[u8]) -> Result<Line, ReadRefusal>
     ensures exact { IfOk result (λ line. IsWellFormed line × (bytes.now ≡ text_of line)) }
     ensures bad_line { IsErrOf result ReadRefusal.BadLine

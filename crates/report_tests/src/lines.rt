@@ -1,11 +1,13 @@
 //! Outside vectors: a report byte for byte, names of every kind, lines made by chance, and texts that are no lines.
 
 use crate::made_lines::{Dice, made_line};
-use crate::reading::{read_at_once, read_by_value};
-use crate::{Line, LineFault, LineSink, Origin, ReadRefusal, Report, print, read};
 use cq_io::MemSink;
 use cq_steps::Move;
 use cq_terms::{NoMemory, QAtom, Term};
+use report_text::{
+    Line, LineFault, LineSink, Origin, ReadRefusal, Report, print, read, read_at_once,
+    read_by_value,
+};
 use serde_json::Value;
 use std::alloc::{AllocError, Global};
 use std::process::Abort;

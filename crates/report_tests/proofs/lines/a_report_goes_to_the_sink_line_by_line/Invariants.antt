@@ -1,6 +1,6 @@
 use Rattle.std.proofs.Common.{◌≡◌, None}
 use Rattle.report_text.specs.LineBytes.{line_kept}
-use Rattle.report_text.proofs.tests.a_report_goes_to_the_sink_line_by_line.Given as goal
+use Rattle.report_tests.proofs.lines.a_report_goes_to_the_sink_line_by_line.Given as goal
 
 -- no line is torn
 abbrev pub invariant-loop-text : goal.invariant-loop-text
