@@ -5,38 +5,39 @@ use Rattle.clause_meaning.specs.Literals.{opposite_of, variable_of}
 use Rattle.clause_meaning.specs.Refutation.{Refutes, OppositesOf}
 use Rattle.clause_meaning.specs.Assignments.{Inside, Separates}
 use Rattle.clause_meaning.proofs.Chains.{Refutes-more, Reaches-more}
-use Rattle.clause_arena.specs.State.{State as Arena, Held, LiveIn as ArenaLive}
+use Rattle.clause_arena.specs.State.{State as Arena, HeldClause, LiveIn as ArenaLive}
 use Rattle.cdcl_trail.specs.State.{State as Trail}
+use Rattle.cq_terms.specs.Lists.{IsAscending}
 use Rattle.cdcl_trail.specs.Choices.{DifferInPairs}
 use Rattle.clause_meaning.specs.Learning.{is_in, Nothing, OccursIn, IsUndecided, IsLearnable}
-use Rattle.conflict_analysis.specs.Searching.{Searched, IsProper as IsProperClause}
-use Rattle.conflict_analysis.specs.Lessons.{IsLesson}
-use Rattle.conflict_analysis.proofs.Refuting.{known_unrefuted}
+use Rattle.clause_learning.specs.Searching.{Searched, IsProper as IsProperClause}
+use Rattle.clause_learning.specs.Lessons.{IsLesson}
+use Rattle.clause_learning.proofs.Refuting.{known_unrefuted}
 use Rattle.cdcl_core.specs.declared.seeking.Stop.{Stop}
 use Rattle.cdcl_core.specs.declared.seeking.Stop.TheVariants as stop
 use Rattle.cdcl_core.specs.State.{LiveIn, value_in}
-use Rattle.cdcl_core.specs.Store.{Parts, IsProper, AreProper, IsAscending, AreCounted, IsKept}
+use Rattle.cdcl_core.specs.Store.{StoreState, IsProper, AreProper, AreCounted, IsKept}
 use Rattle.cdcl_core.specs.Shown.{literals_on}
 use Rattle.cdcl_core.specs.Solving.{IsModelOf}
 use Rattle.cdcl_core.specs.Seeking.{IsSameQuestion, Stops, StoreStops, bare}
 use Rattle.cdcl_core.proofs.Labelling.{labelled_live, live_labelled}
 
 -- the live clauses are the same
-pub live_shown : (p : Parts) (c : List ℕ) → length p.labels ≡ length p.arena.live → ArenaLive p.arena c → LiveIn (bare p) c
+pub live_shown : (p : StoreState) (c : List ℕ) → length p.labels ≡ length p.arena.live → ArenaLive p.arena c → LiveIn (bare p) c
 live_shown p c parallel m = labelled_live p.labels p.arena.live c parallel m
 
-pub shown_live : (p : Parts) (c : List ℕ) → LiveIn (bare p) c → ArenaLive p.arena c
+pub shown_live : (p : StoreState) (c : List ℕ) → LiveIn (bare p) c → ArenaLive p.arena c
 shown_live p c m = live_labelled p.labels p.arena.live c m
 
-pub refuted_shown : (p : Parts) (L M : ℕ → Type 0) → length p.labels ≡ length p.arena.live → ((l : ℕ) → L l → M l) → Refutes (Searched p.trail p.arena) L
+pub refuted_shown : (p : StoreState) (L M : ℕ → Type 0) → length p.labels ≡ length p.arena.live → ((l : ℕ) → L l → M l) → Refutes (Searched p.trail p.arena) L
     → Refutes (Inside (is_in p.trail.focus) (LiveIn (bare p))) M
 refuted_shown p L M parallel more r =
     Refutes-more (Searched p.trail p.arena) (Inside (is_in p.trail.focus) (LiveIn (bare p))) L M (λ c m. (live_shown p c parallel m.0, m.1)) more r
 
-pub shown_refuted : (p : Parts) (L : ℕ → Type 0) → Refutes (Inside (is_in p.trail.focus) (LiveIn (bare p))) L → Refutes (Searched p.trail p.arena) L
+pub shown_refuted : (p : StoreState) (L : ℕ → Type 0) → Refutes (Inside (is_in p.trail.focus) (LiveIn (bare p))) L → Refutes (Searched p.trail p.arena) L
 shown_refuted p L r = Refutes-more (Inside (is_in p.trail.focus) (LiveIn (bare p))) (Searched p.trail p.arena) L L (λ c m. (shown_live p c m.0, m.1)) (λ l m. m) r
 
-pub separates_live : (p : Parts) (scope : List ℕ) → length p.labels ≡ length p.arena.live → Separates (is_in scope) (LiveIn (bare p)) → Separates (is_in scope) (ArenaLive p.arena)
+pub separates_live : (p : StoreState) (scope : List ℕ) → length p.labels ≡ length p.arena.live → Separates (is_in scope) (LiveIn (bare p)) → Separates (is_in scope) (ArenaLive p.arena)
 separates_live p scope parallel h c m = h c (live_shown p c parallel m)
 
 -- the same clauses have the same models
@@ -70,13 +71,13 @@ IsLearnable-same S T clause to from h = record {
 }
 
 -- what a stop says, by what the store shows
-pub stops_shown : (assume : List ℕ) (p : Parts) (at : Stop) → length p.labels ≡ length p.arena.live → Stops assume p.trail p.arena at → StoreStops assume p at
+pub stops_shown : (assume : List ℕ) (p : StoreState) (at : Stop) → length p.labels ≡ length p.arena.live → Stops assume p.trail p.arena at → StoreStops assume p at
 stops_shown assume p stop.Refuted parallel r = refuted_shown p (Contains assume) (Contains assume) parallel (λ l m. m) r
 stops_shown assume p stop.Model parallel h = IsModelOf-same (ArenaLive p.arena) (LiveIn (bare p)) p.trail.focus assume (literals_on p.trail.entries) (λ c m. live_shown p c parallel m) (λ c m. shown_live p c m) h
-stops_shown assume p (stop.Conflict clause assumed) parallel (seeks, above, conflict) = (
+stops_shown assume p (stop.Falsified clause assumed) parallel (seeks, above, falsified) = (
   seeks,
   above,
-  conflict,
+  falsified,
   λ r. known_unrefuted p.trail p.arena (Contains assume) assumed seeks.searching above (seeks.known above) (shown_refuted p (Contains assume) r),
 )
 
@@ -87,11 +88,11 @@ differ_from_ascending variables up i j d before within e = (let h = up i j d bef
 -- each live clause is proper
 pub proper_live : (n : ℕ) (arena : Arena) (clause : List ℕ) → AreProper n arena.live → ArenaLive arena clause → IsProperClause clause
 proper_live n arena clause proper (k, held, p, is, same) =
-    let h : IsProper n held.literals = All-contains (λ (x : Held). IsProper n x.literals) arena.live held proper (k, p, is) in
+    let h : IsProper n held.literals = All-contains (λ (x : HeldClause). IsProper n x.literals) arena.live held proper (k, p, is) in
     subst IsProperClause same (record { some = h.some; distinct = h.distinct })
 
 -- another trail with the same variables and counts
-pub IsKept-trail : (p : Parts) (trail : Trail) → IsKept p → IsSameQuestion p.trail trail → IsKept (record p { trail = trail })
+pub IsKept-trail : (p : StoreState) (trail : Trail) → IsKept p → IsSameQuestion p.trail trail → IsKept (record p { trail = trail })
 IsKept-trail p trail kept same = record {
   few = kept.few;
   same_variables = same.variables ∙ kept.same_variables;
@@ -112,7 +113,7 @@ lesson_proper n trail arena clause asserting back proper lesson = record {
   where
     held_range : (l : ℕ) → (c : List ℕ) → ArenaLive arena c → Contains c l → variable_of l < n
     held_range l c (k, held, p, is, same) m =
-        let h : IsProper n held.literals = All-contains (λ (x : Held). IsProper n x.literals) arena.live held proper (k, p, is) in
+        let h : IsProper n held.literals = All-contains (λ (x : HeldClause). IsProper n x.literals) arena.live held proper (k, p, is) in
         All-contains (λ (x : ℕ). variable_of x < n) held.literals l h.in_range (subst (λ (d : List ℕ). Contains d l) (sym same) m)
 
     in_range : (l : ℕ) → Contains clause l → variable_of l < n

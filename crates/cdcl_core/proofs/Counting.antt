@@ -6,13 +6,14 @@ use Rattle.std.proofs.lemmas.List.Kept.{AllPairs-filter}
 use Rattle.std.proofs.lemmas.List.Sums.{sum_by-take-le}
 use Rattle.clause_meaning.specs.Literals.{variable_of, HaveDistinctVariables}
 use Rattle.clause_meaning.proofs.Members.{Contains-nil, Contains-cons_cases}
-use Rattle.clause_arena.specs.State.{Held, AreAscending, without}
+use Rattle.clause_arena.specs.State.{HeldClause, AreAscending, without}
 use Rattle.cdcl_trail.specs.State.{State as Trail, count_of, with_count}
-use Rattle.cdcl_core.specs.declared.labels.Which.{Which}
+use Rattle.cdcl_core.specs.declared.labels.Selection.{Selection}
 use Rattle.cdcl_core.specs.Labels.{DropsIf}
 use Rattle.cdcl_core.specs.Store.{tally, occurrences, IsProper, AreProper, OnlyCounts}
 use Rattle.cdcl_core.proofs.Tallies.{counts_at, tally_more, tally_fresh, counts_at_same, counts_at_other, occurrences-cons}
-use Rattle.cdcl_core.proofs.Walks.{RisesFrom, RisesFrom-above, RisesFrom-ascending, without_others}
+use Rattle.clause_arena.proofs.Changes.{without_none}
+use Rattle.cdcl_core.proofs.Walks.{RisesFrom, RisesFrom-above, RisesFrom-ascending}
 
 -- another count of one variable
 count_of_other : (trail : Trail) (v n w : ℕ) → w ≢ v → count_of (with_count trail v n) w ≡ count_of trail w
@@ -75,20 +76,20 @@ lowered_more old now new literals i v h is lowered exact down w =
     ]
 
 -- a live clause is counted, and gone once it is dropped
-pub occurrences-without : (v low : ℕ) (live : List Held) (h : Held) → RisesFrom low live → Contains live h
+pub occurrences-without : (v low : ℕ) (live : List HeldClause) (h : HeldClause) → RisesFrom low live → Contains live h
     → occurrences v live ≡ occurrences v (without live h.reference) + tally v h.literals
 occurrences-without v low [] h rises m = absurd (Contains-nil h m)
 occurrences-without v low (x ∷ xs) h (here, rest) m =
     elim (Contains-cons_cases x xs h m) [
-      | inl e ↦ first e (eqb x.reference h.reference) (eq-eqb x.reference h.reference (ap (λ (y : Held). y.reference) e))
+      | inl e ↦ first e (eqb x.reference h.reference) (eq-eqb x.reference h.reference (ap (λ (y : HeldClause). y.reference) e))
       | inr t ↦ later (occurrences-without v (x.reference + 1) xs h rest t) (eqb x.reference h.reference) (ne_eqb x.reference h.reference (λ e. let above = RisesFrom-above (x.reference + 1) xs h rest t in omega arith))
     ]
   where
     first : x ≡ h → (b : Bool) → b ≡ true → occurrences v (x ∷ xs) ≡ occurrences v (cond (not b) (x ∷ without xs h.reference) (without xs h.reference)) + tally v h.literals
     first e true is =
-        let others = without_others xs h.reference (λ y k d. let above = RisesFrom-above (x.reference + 1) xs y rest k in let same = ap (λ (z : Held). z.reference) e in omega arith) in
+        let others = without_none xs h.reference (λ y k d. let above = RisesFrom-above (x.reference + 1) xs y rest k in let same = ap (λ (z : HeldClause). z.reference) e in omega arith) in
         let front = occurrences-cons v x xs in
-        let this = ap (λ (z : Held). tally v z.literals) e in
+        let this = ap (λ (z : HeldClause). tally v z.literals) e in
         let tail = ap (occurrences v) others in
         omega (arith, front, this, tail)
     first e false is = absurd (cc)
@@ -101,20 +102,20 @@ occurrences-without v low (x ∷ xs) h (here, rest) m =
         omega (arith, front, back, inner)
 
 -- where the references ascend
-pub occurrences-dropped : (v : ℕ) (live : List Held) (h : Held) → AreAscending live → Contains live h
+pub occurrences-dropped : (v : ℕ) (live : List HeldClause) (h : HeldClause) → AreAscending live → Contains live h
     → occurrences v live ≡ occurrences v (without live h.reference) + tally v h.literals
 occurrences-dropped v live h ascending m = occurrences-without v 0 live h (RisesFrom-ascending 0 live (λ x k. omega arith) ascending) m
 
-pub tally-le_occurrences : (v : ℕ) (live : List Held) (h : Held) → AreAscending live → Contains live h → tally v h.literals ≤ occurrences v live
+pub tally-le_occurrences : (v : ℕ) (live : List HeldClause) (h : HeldClause) → AreAscending live → Contains live h → tally v h.literals ≤ occurrences v live
 tally-le_occurrences v live h ascending m = let all = occurrences-dropped v live h ascending m in omega (arith, all)
 
 -- what is left of proper clauses in order is so too
-pub AreProper-drops : (which : Which) (n : ℕ) (number : Option ℕ) (r : ℕ) (live new : List Held) (gone : Bool) → DropsIf which number r live new gone → AreProper n live → AreProper n new
+pub AreProper-drops : (which : Selection) (n : ℕ) (number : Option ℕ) (r : ℕ) (live new : List HeldClause) (gone : Bool) → DropsIf which number r live new gone → AreProper n live → AreProper n new
 AreProper-drops which n number r live new true (taken, same) proper =
     subst (AreProper n) (sym same) (All-filter (λ held. not (eqb held.reference r)) (λ held. IsProper n held.literals) live proper)
 AreProper-drops which n number r live new false (taken, same) proper = subst (AreProper n) (sym same) proper
 
-pub AreAscending-drops : (which : Which) (number : Option ℕ) (r : ℕ) (live new : List Held) (gone : Bool) → DropsIf which number r live new gone → AreAscending live → AreAscending new
+pub AreAscending-drops : (which : Selection) (number : Option ℕ) (r : ℕ) (live new : List HeldClause) (gone : Bool) → DropsIf which number r live new gone → AreAscending live → AreAscending new
 AreAscending-drops which number r live new true (taken, same) ascending =
     subst AreAscending (sym same) (AllPairs-filter (λ a b. a.reference < b.reference) (λ held. not (eqb held.reference r)) live ascending)
 AreAscending-drops which number r live new false (taken, same) ascending = subst AreAscending (sym same) ascending

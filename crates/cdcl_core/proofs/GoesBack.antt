@@ -4,19 +4,19 @@ use Rattle.std.proofs.lemmas.List.Elements.{All-nil, All-cons}
 use Rattle.clause_meaning.specs.Assignments.{IsInside}
 use Rattle.clause_arena.specs.State.{State as Arena, LiveIn, Holds, with_clause}
 use Rattle.clause_arena.specs.declared.clause_ref.ClauseRef.{ClauseRef}
-use Rattle.cdcl_trail.specs.declared.entry.Entry.{Entry}
+use Rattle.cdcl_trail.specs.declared.trail_entry.TrailEntry.{TrailEntry}
 use Rattle.cdcl_trail.specs.State.{State, with_entry}
 use Rattle.cdcl_trail.specs.Levels.{CutsTo}
 use Rattle.cdcl_trail.specs.Fits.{Fits}
-use Rattle.conflict_analysis.specs.Levels.{IsKnownAt}
+use Rattle.clause_learning.specs.Levels.{IsKnownAt}
 use Rattle.clause_meaning.specs.Learning.{is_in, With}
-use Rattle.conflict_analysis.specs.Searching.{LiveAmong, Searched, IsSearching, AreAssumed, UnitsStand}
-use Rattle.conflict_analysis.proofs.LevelFacts.{IsKnownAt-append, IsKnownAt-append_above}
-use Rattle.conflict_analysis.proofs.Keeping.{IsSearching-fix, IsSearching-force}
-use Rattle.conflict_analysis.proofs.Assumed.{AreAssumed-lower, AreAssumed-guess, AreAssumed-append, AreAssumed-front, UnitsStand-append, UnitsStand-front, UnitsStand-longer, UnitsStand-unit}
-use Rattle.conflict_analysis.proofs.AfterLesson.{LiveIn-pushed, LiveAmong-pushed_cases, Names-pushed, IsSearching-learned, lesson_reason, lesson_unit, lesson_inside}
-use Rattle.conflict_analysis.proofs.Reached.{named_live}
-use Rattle.conflict_analysis.specs.Lessons.{IsLesson}
+use Rattle.clause_learning.specs.Searching.{LiveAmong, Searched, IsSearching, AreAssumed, UnitsStand}
+use Rattle.clause_learning.proofs.LevelFacts.{IsKnownAt-append, IsKnownAt-append_above}
+use Rattle.clause_learning.proofs.Keeping.{IsSearching-fix, IsSearching-force}
+use Rattle.clause_learning.proofs.Assumed.{AreAssumed-lower, AreAssumed-guess, AreAssumed-append, AreAssumed-front, UnitsStand-append, UnitsStand-front, UnitsStand-longer, UnitsStand-unit}
+use Rattle.clause_learning.proofs.AfterLesson.{LiveIn-pushed, LiveAmong-pushed_cases, Names-pushed, IsSearching-learned, lesson_reason, lesson_unit, lesson_inside}
+use Rattle.clause_learning.proofs.Reached.{named_live}
+use Rattle.clause_learning.specs.Lessons.{IsLesson}
 use Rattle.cdcl_core.specs.Store.{AreCounted, OnlyCounts}
 use Rattle.cdcl_core.specs.Seeking.{IsSought, Seeks, IsAfter}
 
@@ -103,9 +103,9 @@ IsBack-cut assume old cut before arena reference clause asserting back assumed s
       inside = subst (λ (vs : List ℕ). IsInside (is_in vs) assume) (sym cuts.focus) s.inside;
       reached = omega (arith, at);
       given = AreAssumed-front (Contains assume) cut.entries cuts.cut.0 (min assumed back)
-          (subst (λ (es : List Entry). AreAssumed (Contains assume) es (min assumed back)) cuts.cut.1 (AreAssumed-lower (Contains assume) old.entries (min assumed back) assumed (omega arith) s.given));
+          (subst (λ (es : List TrailEntry). AreAssumed (Contains assume) es (min assumed back)) cuts.cut.1 (AreAssumed-lower (Contains assume) old.entries (min assumed back) assumed (omega arith) s.given));
       sought = AreAssumed-front (IsSought assume arena) cut.entries cuts.cut.0 cut.level
-          (subst (λ (es : List Entry). AreAssumed (IsSought assume arena) es cut.level) cuts.cut.1
+          (subst (λ (es : List TrailEntry). AreAssumed (IsSought assume arena) es cut.level) cuts.cut.1
           (AreAssumed-lower (IsSought assume arena) old.entries cut.level old.level (omega (arith, at, lower))
           (λ k d p none above up. IsSought-pushed assume before arena reference.place clause (get_or old.entries k d).literal after.holds (s.sought k d p none above up))));
       known = λ below l m. known below l m;
@@ -119,7 +119,7 @@ IsBack-cut assume old cut before arena reference clause asserting back assumed s
         let same : assumed ≡ min assumed back = omega (arith, less) in
         subst (λ (n : ℕ). IsKnownAt cut.entries n l) same
         (IsKnownAt-append_above cut.entries cuts.cut.0 assumed l (λ k d p. (let above : back < (get_or cuts.cut.0 k d).level = cuts.cut.3 k d p in omega (arith, above, less)))
-        (subst (λ (es : List Entry). IsKnownAt es assumed l) cuts.cut.1 (s.known (omega (arith, less, lower)) l m)))
+        (subst (λ (es : List TrailEntry). IsKnownAt es assumed l) cuts.cut.1 (s.known (omega (arith, less, lower)) l m)))
 
 -- the clauses of the search afterwards
 searched_cases : (old cut : State) (before arena : Arena) (reference : ClauseRef) (clause c : List ℕ) (asserting back : ℕ) → IsAfter before old arena reference clause asserting back → CutsTo old cut back
@@ -150,7 +150,7 @@ Seeks-unit assume old cut new before arena reference clause asserting back assum
     on_zero : cut.level ≡ 0
     on_zero = cuts.level ∙ lesson.1
 
-    e : Entry
+    e : TrailEntry
     e = record { literal = asserting; level = cut.level; reason = None }
 
     unit_searched : Searched cut arena (asserting ∷ [])
@@ -178,11 +178,11 @@ Seeks-forced assume old cut new before arena reference clause asserting back ass
       known = λ below l m. IsKnownAt-append cut.entries (e ∷ []) assumed l (b.known below l m);
     })
   where
-    e : Entry
+    e : TrailEntry
     e = record { literal = asserting; level = cut.level; reason = Some reference }
 
-    some : All (λ (x : Entry). IsSome x.reason) (e ∷ [])
-    some = All-cons (λ (x : Entry). IsSome x.reason) e [] refl (All-nil (λ (x : Entry). IsSome x.reason))
+    some : All (λ (x : TrailEntry). IsSome x.reason) (e ∷ [])
+    some = All-cons (λ (x : TrailEntry). IsSome x.reason) e [] refl (All-nil (λ (x : TrailEntry). IsSome x.reason))
 
 pub lesson_long : (before : Arena) (old : State) (arena : Arena) (reference : ClauseRef) (clause : List ℕ) (asserting back : ℕ) → IsAfter before old arena reference clause asserting back
     → (length clause ≡ 1 → ⊥) → 2 ≤ length clause

@@ -1,13 +1,13 @@
 -- Labels and clauses side by side.
 use Rattle.std.proofs.Common.{◌≡◌, ℕ, zero, suc, ◌<◌, ◌≤◌, ◌+◌, List, [], ◌∷◌, ◌++◌, length, get_or, take, map, Any, Option, Some, None, refl, ap, ◌∙◌, arith}
 use Rattle.std.proofs.lemmas.List.{take_more}
-use Rattle.clause_arena.specs.State.{Held, renamed}
+use Rattle.clause_arena.specs.State.{HeldClause, renamed}
 use Rattle.cdcl_core.specs.declared.labels.Label.{Label}
 use Rattle.cdcl_core.specs.State.{LiveClause, put_number, numbers_in}
 use Rattle.cdcl_core.specs.Labels.{labelled, numbers_on}
 
 -- one more of each
-pub labelled-push : (labels : List Label) (live : List Held) (label : Label) (held : Held) → length labels ≡ length live
+pub labelled-push : (labels : List Label) (live : List HeldClause) (label : Label) (held : HeldClause) → length labels ≡ length live
     → labelled (labels ++ label ∷ []) (live ++ held ∷ []) ≡ labelled labels live ++ record { number = label.number; literals = held.literals } ∷ []
 labelled-push [] [] label held e = refl
 labelled-push [] (h ∷ hs) label held e = absurd (omega arith)
@@ -16,13 +16,13 @@ labelled-push (n ∷ ns) (h ∷ hs) label held e =
     ap (λ (xs : List LiveClause). record { number = n.number; literals = h.literals } ∷ xs) (labelled-push ns hs label held (omega arith))
 
 -- new references change nothing
-pub labelled-renamed : (f : ℕ → ℕ) (labels : List Label) (live : List Held) → labelled labels (map (renamed f) live) ≡ labelled labels live
+pub labelled-renamed : (f : ℕ → ℕ) (labels : List Label) (live : List HeldClause) → labelled labels (map (renamed f) live) ≡ labelled labels live
 labelled-renamed f [] live = refl
 labelled-renamed f (n ∷ ns) [] = refl
 labelled-renamed f (n ∷ ns) (h ∷ hs) = ap (λ (xs : List LiveClause). record { number = n.number; literals = h.literals } ∷ xs) (labelled-renamed f ns hs)
 
 -- the numbers stand on the labels
-pub numbers_in-labelled : (labels : List Label) (live : List Held) → length labels ≡ length live → numbers_in (labelled labels live) ≡ numbers_on labels
+pub numbers_in-labelled : (labels : List Label) (live : List HeldClause) → length labels ≡ length live → numbers_in (labelled labels live) ≡ numbers_on labels
 numbers_in-labelled [] live e = refl
 numbers_in-labelled (n ∷ ns) [] e = absurd (omega arith)
 numbers_in-labelled (n ∷ ns) (h ∷ hs) e = ap (put_number n.number) (numbers_in-labelled ns hs (omega arith))
@@ -55,15 +55,15 @@ length-numbers_on (n ∷ ns) =
     omega (arith, rest, this)
 
 -- a clause is among those side by side exactly where it is in the arena
-pub labelled_live : (labels : List Label) (live : List Held) (c : List ℕ) → length labels ≡ length live → Any (λ held. held.literals ≡ c) live → Any (λ entry. entry.literals ≡ c) (labelled labels live)
+pub labelled_live : (labels : List Label) (live : List HeldClause) (c : List ℕ) → length labels ≡ length live → Any (λ held. held.literals ≡ c) live → Any (λ entry. entry.literals ≡ c) (labelled labels live)
 labelled_live labels [] c e (k, x, p, is, same) = absurd (omega arith)
 labelled_live [] (h ∷ hs) c e m = absurd (omega arith)
-labelled_live (n ∷ ns) (h ∷ hs) c e (zero, x, p, is, same) = (zero, record { number = n.number; literals = h.literals }, omega arith, refl, ap (λ (y : Held). y.literals) is ∙ same)
+labelled_live (n ∷ ns) (h ∷ hs) c e (zero, x, p, is, same) = (zero, record { number = n.number; literals = h.literals }, omega arith, refl, ap (λ (y : HeldClause). y.literals) is ∙ same)
 labelled_live (n ∷ ns) (h ∷ hs) c e (suc k, x, p, is, same) =
     let rest = labelled_live ns hs c (omega arith) (k, x, omega arith, is, same) in
     (suc rest.0, rest.1, (let q = rest.2 in omega arith), rest.3, rest.4)
 
-pub live_labelled : (labels : List Label) (live : List Held) (c : List ℕ) → Any (λ entry. entry.literals ≡ c) (labelled labels live) → Any (λ held. held.literals ≡ c) live
+pub live_labelled : (labels : List Label) (live : List HeldClause) (c : List ℕ) → Any (λ entry. entry.literals ≡ c) (labelled labels live) → Any (λ held. held.literals ≡ c) live
 live_labelled [] live c (k, x, p, is, same) = absurd (omega arith)
 live_labelled (n ∷ ns) [] c (k, x, p, is, same) = absurd (omega arith)
 live_labelled (n ∷ ns) (h ∷ hs) c (zero, x, p, is, same) = (zero, h, omega arith, refl, ap (λ (y : LiveClause). y.literals) is ∙ same)

@@ -6,18 +6,18 @@ use Rattle.clause_meaning.specs.Literals.{opposite_of, variable_of, is_present}
 use Rattle.clause_meaning.specs.Assignments.{IsTrueIn, Satisfies}
 use Rattle.clause_meaning.proofs.LiteralLaws.{same_variable}
 use Rattle.clause_meaning.proofs.Members.{Contains-nil, Contains-cons_cases, Contains-head, Contains-tail}
-use Rattle.clause_arena.specs.State.{State as Arena, Held, LiveIn}
+use Rattle.clause_arena.specs.State.{State as Arena, HeldClause, LiveIn}
 use Rattle.clause_arena.specs.declared.clause_ref.ClauseRef.{ClauseRef}
-use Rattle.cdcl_trail.specs.declared.entry.Entry.{Entry}
+use Rattle.cdcl_trail.specs.declared.trail_entry.TrailEntry.{TrailEntry}
 use Rattle.cdcl_trail.specs.Assigned.{IsTrueOn}
 use Rattle.cdcl_trail.specs.State.{State, count_of}
 use Rattle.cdcl_trail.specs.Fits.{IsReason, IsComplete}
 use Rattle.cdcl_trail.specs.Choices.{AreAssigned}
 use Rattle.cdcl_trail.specs.Values.{IsAssigned}
 use Rattle.clause_meaning.specs.Learning.{is_in, OccursIn}
-use Rattle.conflict_analysis.specs.Searching.{Searched}
-use Rattle.conflict_analysis.proofs.Reached.{closed_search, named_live}
-use Rattle.conflict_analysis.proofs.Keeping.{true_in_focus}
+use Rattle.clause_learning.specs.Searching.{Searched}
+use Rattle.clause_learning.proofs.Reached.{closed_search, named_live}
+use Rattle.clause_learning.proofs.Keeping.{true_in_focus}
 use Rattle.cdcl_core.specs.State.{value_in}
 use Rattle.cdcl_core.specs.Store.{tally, occurrences, AreCounted}
 use Rattle.cdcl_core.specs.Shown.{literals_on}
@@ -48,7 +48,7 @@ tally_some v (x ∷ xs) k m same =
       | inr t ↦ (let rest = tally_some v xs k t same in omega (arith, front, rest))
     ]
 
-pub occurrences_found : (v : ℕ) (live : List Held) → occurrences v live ≢ 0 → (k : ℕ) × (variable_of k ≡ v) × (h : Held) × Contains live h × Contains h.literals k
+pub occurrences_found : (v : ℕ) (live : List HeldClause) → occurrences v live ≢ 0 → (k : ℕ) × (variable_of k ≡ v) × (h : HeldClause) × Contains live h × Contains h.literals k
 occurrences_found v [] n = absurd (n refl)
 occurrences_found v (h ∷ hs) n =
     elim (cases_eq (tally v h.literals) 0) [
@@ -59,12 +59,12 @@ occurrences_found v (h ∷ hs) n =
       | inr d ↦ (let found = tally_found v h.literals d in (found.0, found.2, h, Contains-head h hs h refl, found.1))
     ]
 
-occurrences_some : (v : ℕ) (live : List Held) (held : Held) (k : ℕ) → Contains live held → Contains held.literals k → variable_of k ≡ v → 0 < occurrences v live
+occurrences_some : (v : ℕ) (live : List HeldClause) (held : HeldClause) (k : ℕ) → Contains live held → Contains held.literals k → variable_of k ≡ v → 0 < occurrences v live
 occurrences_some v [] held k m has same = absurd (Contains-nil held m)
 occurrences_some v (h ∷ hs) held k m has same =
     let front = occurrences-cons v h hs in
     elim (Contains-cons_cases h hs held m) [
-      | inl e ↦ (let one = tally_some v h.literals k (subst (λ (x : Held). Contains x.literals k) (sym e) has) same in omega (arith, front, one))
+      | inl e ↦ (let one = tally_some v h.literals k (subst (λ (x : HeldClause). Contains x.literals k) (sym e) has) same in omega (arith, front, one))
       | inr t ↦ (let rest = occurrences_some v hs held k t has same in omega (arith, front, rest))
     ]
 
@@ -83,7 +83,7 @@ unfolding is_present
 twice_present v = grind arith
 
 -- what is true on the trail is true in its values
-pub true_in_values : (entries : List Entry) (l : ℕ) → ((k : ℕ) → IsTrueOn entries k → IsTrueOn entries (opposite_of k) → ⊥) → IsTrueOn entries l → IsTrueIn (value_in (literals_on entries)) l
+pub true_in_values : (entries : List TrailEntry) (l : ℕ) → ((k : ℕ) → IsTrueOn entries k → IsTrueOn entries (opposite_of k) → ⊥) → IsTrueOn entries l → IsTrueIn (value_in (literals_on entries)) l
 true_in_values entries l consistent on = by_sign (is_present l) refl
   where
     by_sign : (b : Bool) → is_present l ≡ b → value_on entries (variable_of l) ≡ b
@@ -93,7 +93,7 @@ true_in_values entries l consistent on = by_sign (is_present l) refl
       | inr other ↦ consistent l on (subst (IsTrueOn entries) other there)
     ])
 
-assigned_true : (entries : List Entry) (l : ℕ) → IsAssigned entries (variable_of l) → IsTrueOn entries l ⊎ IsTrueOn entries (opposite_of l)
+assigned_true : (entries : List TrailEntry) (l : ℕ) → IsAssigned entries (variable_of l) → IsTrueOn entries l ⊎ IsTrueOn entries (opposite_of l)
 assigned_true entries l (k, e, p, is, same) =
     elim (same_variable e.literal l same) [
       | inl one ↦ inl (k, e, p, is, one)
@@ -101,7 +101,7 @@ assigned_true entries l (k, e, p, is, same) =
     ]
 
 -- a clause has a true literal, or each is false
-one_or_none : (entries : List Entry) (c : List ℕ) → ((l : ℕ) → Contains c l → IsTrueOn entries l ⊎ IsTrueOn entries (opposite_of l))
+one_or_none : (entries : List TrailEntry) (c : List ℕ) → ((l : ℕ) → Contains c l → IsTrueOn entries l ⊎ IsTrueOn entries (opposite_of l))
     → ((l : ℕ) × Contains c l × IsTrueOn entries l) ⊎ ((l : ℕ) → Contains c l → IsTrueOn entries (opposite_of l))
 one_or_none entries [] h = inr (λ l m. absurd (Contains-nil l m))
 one_or_none entries (x ∷ xs) h =
@@ -120,12 +120,12 @@ one_or_none entries (x ∷ xs) h =
 clause_sought : (assume : List ℕ) (arena : Arena) (c : List ℕ) (l : ℕ) → LiveIn arena c → Contains c l → IsSought assume arena l
 clause_sought assume arena c l live m = inr (l, refl, (c, live, m))
 
-reason_sought : (assume : List ℕ) (arena : Arena) (before : List Entry) (l : ℕ) (reason : Option ClauseRef) → IsReason arena before l reason → (reason ≡ None → IsSought assume arena l) → IsSought assume arena l
+reason_sought : (assume : List ℕ) (arena : Arena) (before : List TrailEntry) (l : ℕ) (reason : Option ClauseRef) → IsReason arena before l reason → (reason ≡ None → IsSought assume arena l) → IsSought assume arena l
 reason_sought assume arena before l None r none = none refl
 reason_sought assume arena before l (Some reference) (clause, named, two, forces) none = clause_sought assume arena clause l (named_live arena reference.place clause named) forces.member
 
 -- each assigned literal is sought
-entry_sought : (assume : List ℕ) (trail : State) (arena : Arena) (assumed : ℕ) → Seeks assume trail arena assumed → (k : ℕ) (d : Entry) → k < length trail.entries
+entry_sought : (assume : List ℕ) (trail : State) (arena : Arena) (assumed : ℕ) → Seeks assume trail arena assumed → (k : ℕ) (d : TrailEntry) → k < length trail.entries
     → IsSought assume arena (get_or trail.entries k d).literal
 entry_sought assume trail arena assumed s k d p =
     reason_sought assume arena (take k trail.entries) (get_or trail.entries k d).literal (get_or trail.entries k d).reason (s.searching.fits.reasons k d p)
@@ -137,7 +137,7 @@ entry_sought assume trail arena assumed s k d p =
 
 true_sought : (assume : List ℕ) (trail : State) (arena : Arena) (assumed l : ℕ) → Seeks assume trail arena assumed → IsTrueOn trail.entries l → IsSought assume arena l
 true_sought assume trail arena assumed l s (k, e, p, is, same) =
-    subst (IsSought assume arena) (ap (λ (x : Entry). x.literal) is ∙ same) (entry_sought assume trail arena assumed s k e p)
+    subst (IsSought assume arena) (ap (λ (x : TrailEntry). x.literal) is ∙ same) (entry_sought assume trail arena assumed s k e p)
 
 sought_variable : (assume : List ℕ) (arena : Arena) (l v : ℕ) → variable_of l ≡ v → IsSought assume arena l → (k : ℕ) × (variable_of k ≡ v) × (Contains assume k ⊎ OccursIn (LiveIn arena) k)
 sought_variable assume arena l v is (inl m) = (l, is, inl m)

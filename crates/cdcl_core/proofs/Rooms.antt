@@ -1,12 +1,12 @@
 -- An arena with more room has the same clauses, and a search goes on over it.
 use Rattle.std.proofs.Common.{◌≡◌, ℕ, List, sym, subst}
-use Rattle.clause_arena.specs.State.{State as Arena, Held, Holds}
+use Rattle.clause_arena.specs.State.{State as Arena, HeldClause, Holds}
 use Rattle.cdcl_trail.specs.State.{State as Trail}
-use Rattle.conflict_analysis.specs.Searching.{Searched, IsSearching}
-use Rattle.conflict_analysis.specs.Lessons.{IsLesson}
+use Rattle.clause_learning.specs.Searching.{Searched, IsSearching}
+use Rattle.clause_learning.specs.Lessons.{IsLesson}
 use Rattle.cdcl_core.specs.Seeking.{Seeks}
 
-same_arena : (v w s : ℕ) (xs ys : List Held) → v ≡ w → xs ≡ ys → record { variables = v; live = xs; spare = s } ≡ (let a : Arena = record { variables = w; live = ys; spare = s } in a)
+same_arena : (v w s : ℕ) (xs ys : List HeldClause) → v ≡ w → xs ≡ ys → record { variables = v; live = xs; spare = s } ≡ (let a : Arena = record { variables = w; live = ys; spare = s } in a)
 same_arena v w s xs ys e f = cc
 
 -- only the spare number differs

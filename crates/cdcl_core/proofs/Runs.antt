@@ -4,13 +4,13 @@ use Rattle.std.proofs.lemmas.List.{append-nil, append_assoc, length_push}
 use Rattle.std.proofs.lemmas.List.Elements.{Contains-append_left, Contains-push, Contains-push_cases}
 use Rattle.clause_meaning.proofs.Members.{Contains-map}
 use Rattle.clause_meaning.specs.Learning.{With, AreLearnable}
-use Rattle.conflict_analysis.proofs.OneSided.{learned_one_sided}
+use Rattle.clause_learning.proofs.OneSided.{learned_one_sided}
 use Rattle.cdcl_core.specs.declared.outcome.Budget.{Budget}
 use Rattle.cdcl_core.specs.declared.outcome.Outcome.{Outcome}
 use Rattle.cdcl_core.specs.declared.outcome.SolveFault.{SolveFault}
 use Rattle.cdcl_core.specs.declared.outcome.SolveFault.TheVariants as fault
 use Rattle.cdcl_core.specs.State.{State, LiveClause, LiveIn}
-use Rattle.cdcl_core.specs.Store.{Parts}
+use Rattle.cdcl_core.specs.Store.{StoreState}
 use Rattle.cdcl_core.specs.Logs.{Learned, LogContent, IsWhole, Appends, TearsAt, Rises}
 use Rattle.cdcl_core.specs.Learning.{IsRefuted, IsNew, MayLearn, AreLearned, JoinNothing, with_learned, with_all}
 use Rattle.cdcl_core.specs.Solving.{Affords, Learns, LogGets, LogFailsOn, LogEnds}
@@ -148,7 +148,7 @@ Ran-push start state new scope assume was now next before mid after f g h entrie
       affords = record { within = omega (arith, one, limit, below); numbers = omega (arith, rises, one, limit, below, numbers) };
     }
 
-pub record RunHolds (start : State) (scope assume : List ℕ) (was now : Budget) (before after : Option LogContent) (f g : ℕ) (parts : Parts) (assumed : ℕ) (entries : List Learned) : Type 0 where
+pub record RunHolds (start : State) (scope assume : List ℕ) (was now : Budget) (before after : Option LogContent) (f g : ℕ) (parts : StoreState) (assumed : ℕ) (entries : List Learned) : Type 0 where
   pub ran : Ran start (bare parts) scope assume was now before after f g entries
   pub seeks : Seeks assume parts.trail parts.arena assumed
   pub focus : parts.trail.focus ≡ scope

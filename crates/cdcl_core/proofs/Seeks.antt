@@ -6,23 +6,23 @@ use Rattle.clause_meaning.specs.Literals.{variable_of}
 use Rattle.clause_meaning.specs.Refutation.{IsClosed}
 use Rattle.clause_meaning.specs.Assignments.{IsInside}
 use Rattle.clause_arena.specs.State.{State as Arena}
-use Rattle.cdcl_trail.specs.declared.entry.Entry.{Entry}
+use Rattle.cdcl_trail.specs.declared.trail_entry.TrailEntry.{TrailEntry}
 use Rattle.cdcl_trail.specs.Assigned.{IsTrueOn}
 use Rattle.cdcl_trail.specs.State.{State, with_entry}
 use Rattle.cdcl_trail.specs.Fits.{Fits, IsComplete, Grows}
-use Rattle.conflict_analysis.specs.Levels.{IsKnownAt}
+use Rattle.clause_learning.specs.Levels.{IsKnownAt}
 use Rattle.clause_meaning.specs.Learning.{is_in}
-use Rattle.conflict_analysis.specs.Searching.{LiveAmong, Searched, AreAssumed, UnitsStand}
-use Rattle.conflict_analysis.proofs.LevelFacts.{known_true, true_known, known_later, IsKnownAt-append}
-use Rattle.conflict_analysis.proofs.Reached.{closed_search}
-use Rattle.conflict_analysis.proofs.Keeping.{IsSearching-decide}
-use Rattle.conflict_analysis.proofs.Growing.{IsSearching-grows}
-use Rattle.conflict_analysis.proofs.Assumed.{AreAssumed-assume, AreAssumed-guess, AreAssumed-append, UnitsStand-append}
+use Rattle.clause_learning.specs.Searching.{LiveAmong, Searched, AreAssumed, UnitsStand}
+use Rattle.clause_learning.proofs.LevelFacts.{known_true, true_known, known_later, IsKnownAt-append}
+use Rattle.clause_learning.proofs.Reached.{closed_search}
+use Rattle.clause_learning.proofs.Keeping.{IsSearching-decide}
+use Rattle.clause_learning.proofs.Growing.{IsSearching-grows}
+use Rattle.clause_learning.proofs.Assumed.{AreAssumed-assume, AreAssumed-guess, AreAssumed-append, UnitsStand-append}
 use Rattle.cdcl_core.specs.Store.{AreCounted}
 use Rattle.cdcl_core.specs.Seeking.{IsSought, Seeks, Begins}
 
 -- the units of the focus, told by the clauses of another focus that is the same
-UnitsStand-focus : (f g : List ℕ) (arena : Arena) (entries : List Entry) → f ≡ g → UnitsStand (LiveAmong f arena) entries → UnitsStand (LiveAmong g arena) entries
+UnitsStand-focus : (f g : List ℕ) (arena : Arena) (entries : List TrailEntry) → f ≡ g → UnitsStand (LiveAmong f arena) entries → UnitsStand (LiveAmong g arena) entries
 UnitsStand-focus f g arena entries e h = subst (λ (vs : List ℕ). UnitsStand (LiveAmong vs arena) entries) e h
 
 -- the units of a search stand on level 0
@@ -52,11 +52,11 @@ Seeks-grows assume old new arena assumed s grows fits =
       in_range = subst (λ (n : ℕ). All (λ v. v < n) new.focus) (sym grows.variables) (subst (All (λ v. v < old.variables)) (sym grows.focus) s.in_range);
       inside = subst (λ (vs : List ℕ). IsInside (is_in vs) assume) (sym grows.focus) s.inside;
       reached = omega (arith, level, reached);
-      given = subst (λ (es : List Entry). AreAssumed (Contains assume) es assumed) (sym grows.added.1) (AreAssumed-append (Contains assume) old.entries grows.added.0 assumed grows.added.3 s.given);
+      given = subst (λ (es : List TrailEntry). AreAssumed (Contains assume) es assumed) (sym grows.added.1) (AreAssumed-append (Contains assume) old.entries grows.added.0 assumed grows.added.3 s.given);
       sought = subst (AreAssumed (IsSought assume arena) new.entries) (sym level)
-          (subst (λ (es : List Entry). AreAssumed (IsSought assume arena) es old.level) (sym grows.added.1)
+          (subst (λ (es : List TrailEntry). AreAssumed (IsSought assume arena) es old.level) (sym grows.added.1)
           (AreAssumed-append (IsSought assume arena) old.entries grows.added.0 old.level grows.added.3 s.sought));
-      known = λ below l m. subst (λ (es : List Entry). IsKnownAt es assumed l) (sym grows.added.1)
+      known = λ below l m. subst (λ (es : List TrailEntry). IsKnownAt es assumed l) (sym grows.added.1)
           (IsKnownAt-append old.entries grows.added.0 assumed l (s.known (omega (arith, below, level)) l m));
     }
 
@@ -77,7 +77,7 @@ none_guessed assume trail arena assumed l s m open_ =
 pub Seeks-assume : (assume : List ℕ) (trail : State) (arena : Arena) (assumed l : ℕ) → Seeks assume trail arena assumed → IsComplete trail arena → Contains assume l → assumed ≡ trail.level
     → Fits (with_entry trail (trail.level + 1) l None) arena → Seeks assume (with_entry trail (trail.level + 1) l None) arena (trail.level + 1)
 Seeks-assume assume trail arena assumed l s complete m top fits =
-    let e : Entry = record { literal = l; level = trail.level + 1; reason = None } in record {
+    let e : TrailEntry = record { literal = l; level = trail.level + 1; reason = None } in record {
       searching = IsSearching-decide trail arena l s.searching (Seeks-closed assume trail arena assumed s complete) (s.inside l m) fits;
       stand = UnitsStand-append (Searched trail arena) trail.entries (e ∷ []) s.stand;
       counted = s.counted;
@@ -102,7 +102,7 @@ all_known assume trail arena assumed s all l m =
 pub Seeks-guess : (assume : List ℕ) (trail : State) (arena : Arena) (assumed l : ℕ) → Seeks assume trail arena assumed → IsComplete trail arena → ((k : ℕ) → Contains assume k → IsTrueOn trail.entries k)
     → is_in trail.focus (variable_of l) ≡ true → IsSought assume arena l → Fits (with_entry trail (trail.level + 1) l None) arena → Seeks assume (with_entry trail (trail.level + 1) l None) arena assumed
 Seeks-guess assume trail arena assumed l s complete all here sought fits =
-    let e : Entry = record { literal = l; level = trail.level + 1; reason = None } in
+    let e : TrailEntry = record { literal = l; level = trail.level + 1; reason = None } in
     let reached = s.reached in record {
       searching = IsSearching-decide trail arena l s.searching (Seeks-closed assume trail arena assumed s complete) here fits;
       stand = UnitsStand-append (Searched trail arena) trail.entries (e ∷ []) s.stand;

@@ -8,8 +8,8 @@ use Rattle.clause_arena.specs.State.{State as Arena}
 use Rattle.cdcl_trail.specs.Assigned.{IsTrueOn, IsUnassigned}
 use Rattle.cdcl_trail.specs.State.{State, with_entry}
 use Rattle.cdcl_trail.specs.Fits.{Fits, IsComplete}
-use Rattle.conflict_analysis.specs.Searching.{Searched, AreAssumed}
-use Rattle.conflict_analysis.proofs.Refuting.{false_assumption_refutes}
+use Rattle.clause_learning.specs.Searching.{Searched, AreAssumed}
+use Rattle.clause_learning.proofs.Refuting.{false_assumption_refutes}
 use Rattle.cdcl_core.specs.Seeking.{Seeks, Guesses, IsModelOn}
 use Rattle.cdcl_core.proofs.Seeks.{none_guessed, Seeks-assume, Seeks-guess, is_in-contains, contains_in}
 use Rattle.cdcl_core.proofs.Models.{counted_sought, IsModelOn-assigned}

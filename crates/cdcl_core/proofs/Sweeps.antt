@@ -5,25 +5,25 @@ use Rattle.std.proofs.lemmas.List.{append-nil, length_push, length-append}
 use Rattle.std.proofs.lemmas.List.Elements.{All-nil, All-push, All-weaker, All-tail, filter-append, Contains-append_right}
 use Rattle.clause_meaning.proofs.Members.{Contains-head}
 use Rattle.clause_arena.specs.declared.clause_ref.ClauseRef.{ClauseRef}
-use Rattle.clause_arena.specs.State.{Held, AreAscending}
+use Rattle.clause_arena.specs.State.{HeldClause, AreAscending}
 use Rattle.clause_arena.specs.Walk.{IsFirstFrom}
 use Rattle.cdcl_core.specs.declared.labels.Label.{Label}
-use Rattle.cdcl_core.specs.declared.labels.Which.{Which}
+use Rattle.cdcl_core.specs.declared.labels.Selection.{Selection}
 use Rattle.cdcl_core.specs.State.{LiveClause}
 use Rattle.cdcl_core.specs.Labels.{labelled, is_taken, stays, DropsIf, Drops}
 use Rattle.cdcl_core.proofs.Walks.{RisesFrom, Starts, RisesFrom-ascending, Starts-behind, without_middle}
 use Rattle.cdcl_core.proofs.Labelling.{labelled-push}
 
 -- whether a clause isn't taken
-abbrev pub is_kept : Which → LiveClause → Bool
+abbrev pub is_kept : Selection → LiveClause → Bool
 is_kept which entry = not (is_taken which entry)
 
 -- what a sweep keeps: some labels and clauses are done, and the rest is as it was
-pub record SweepHolds (which : Which) (all_labels : List Label) (all_live : List Held) (labels : List Label) (live : List Held) (place : ℕ) (at : Option ClauseRef) : Type 0 where
+pub record SweepHolds (which : Selection) (all_labels : List Label) (all_live : List HeldClause) (labels : List Label) (live : List HeldClause) (place : ℕ) (at : Option ClauseRef) : Type 0 where
   pub done_labels : List Label
-  pub done_live : List Held
+  pub done_live : List HeldClause
   pub rest_labels : List Label
-  pub rest_live : List Held
+  pub rest_live : List HeldClause
   pub low : ℕ
   pub labels_are : labels ≡ done_labels ++ rest_labels
   pub live_are : live ≡ done_live ++ rest_live
@@ -37,7 +37,7 @@ pub record SweepHolds (which : Which) (all_labels : List Label) (all_live : List
   pub rises : RisesFrom low rest_live
   pub starts : Starts rest_live at
 
-pub SweepHolds-start : (which : Which) (labels : List Label) (live : List Held) (at : Option ClauseRef) → length labels ≡ length live
+pub SweepHolds-start : (which : Selection) (labels : List Label) (live : List HeldClause) (at : Option ClauseRef) → length labels ≡ length live
     → All (λ label. label.goes ≡ false) labels → AreAscending live → IsFirstFrom live 0 at → SweepHolds which labels live labels live 0 at
 SweepHolds-start which labels live at parallel stay ascending first =
     let rises = RisesFrom-ascending 0 live (λ h m. omega arith) ascending in
@@ -68,7 +68,7 @@ set-middle [] y z ys = refl
 set-middle {X} (x ∷ xs) y z ys = ap (λ (l : List X). x ∷ l) (set-middle xs y z ys)
 
 -- a list as long as another one with a first item has a first item too
-head_of : (labels : List Label) (held : Held) (live : List Held) → length labels ≡ length (held ∷ live) → (label : Label) × (others : List Label) × (labels ≡ label ∷ others)
+head_of : (labels : List Label) (held : HeldClause) (live : List HeldClause) → length labels ≡ length (held ∷ live) → (label : Label) × (others : List Label) × (labels ≡ label ∷ others)
 head_of [] held live e = absurd (omega arith)
 head_of (n ∷ ns) held live e = (n, ns, refl)
 
@@ -76,7 +76,7 @@ push_assoc : {X : Type 0} (xs : List X) (x : X) (ys : List X) → (xs ++ x ∷ [
 push_assoc xs x ys = append_assoc xs (x ∷ []) ys
 
 -- one more clause, that stays or goes
-step_parts : (which : Which) (all_labels : List Label) (all_live : List Held) (dl rl : List Label) (dh rh : List Held) (label : Label) (held : Held) (low : ℕ) (next : Option ClauseRef) (new_live : List Held) (gone : Bool)
+step_parts : (which : Selection) (all_labels : List Label) (all_live : List HeldClause) (dl rl : List Label) (dh rh : List HeldClause) (label : Label) (held : HeldClause) (low : ℕ) (next : Option ClauseRef) (new_live : List HeldClause) (gone : Bool)
     → length rl ≡ length rh → length (filter stays dl) ≡ length dh
     → labelled (filter stays dl) dh ++ filter (is_kept which) (record { number = label.number; literals = held.literals } ∷ labelled rl rh) ≡ filter (is_kept which) (labelled all_labels all_live)
     → All (λ l. l.goes ≡ false) rl → All (λ h. h.reference < low) dh → low ≤ held.reference → RisesFrom (held.reference + 1) rh
@@ -86,8 +86,8 @@ step_parts which all_labels all_live dl rl dh rh label held low next new_live fa
     let x : LiveClause = record { number = label.number; literals = held.literals } in
     let new_label : Label = record label { goes = false } in
     let is = taken held.literals (Contains-append_right dh (held ∷ rh) held (Contains-head held rh held refl)) in
-    let below_more = All-push (λ (h : Held). h.reference < held.reference + 1) dh held
-    (All-weaker (λ (h : Held). h.reference < low) (λ (h : Held). h.reference < held.reference + 1) (λ h p. omega arith) dh below) (omega arith) in
+    let below_more = All-push (λ (h : HeldClause). h.reference < held.reference + 1) dh held
+    (All-weaker (λ (h : HeldClause). h.reference < low) (λ (h : HeldClause). h.reference < held.reference + 1) (λ h p. omega arith) dh below) (omega arith) in
     let done : filter stays (dl ++ new_label ∷ []) ≡ filter stays dl ++ new_label ∷ [] = filter-append stays dl (new_label ∷ []) in
     let live_is : new_live ≡ (dh ++ held ∷ []) ++ rh = same ∙ sym (push_assoc dh held rh) in
     record {
@@ -110,15 +110,15 @@ step_parts which all_labels all_live dl rl dh rh label held low next new_live fa
       below = below_more;
       rises = rises;
       starts = Starts-behind (dh ++ held ∷ []) rh (held.reference + 1) next below_more rises
-          (subst (λ (hs : List Held). IsFirstFrom hs (held.reference + 1) next) (sym (push_assoc dh held rh)) first);
+          (subst (λ (hs : List HeldClause). IsFirstFrom hs (held.reference + 1) next) (sym (push_assoc dh held rh)) first);
     }
 step_parts which all_labels all_live dl rl dh rh label held low next new_live true rest_parallel done_parallel shown stay below here rises first (taken, same) =
     let x : LiveClause = record { number = label.number; literals = held.literals } in
     let new_label : Label = record label { goes = true } in
     let is = taken held.literals (Contains-append_right dh (held ∷ rh) held (Contains-head held rh held refl)) in
-    let below_held = All-weaker (λ (h : Held). h.reference < low) (λ (h : Held). h.reference < held.reference) (λ h p. omega arith) dh below in
-    let below_more = All-weaker (λ (h : Held). h.reference < low) (λ (h : Held). h.reference < held.reference + 1) (λ h p. omega arith) dh below in
-    let pushed = All-push (λ (h : Held). h.reference < held.reference + 1) dh held below_more (omega arith) in
+    let below_held = All-weaker (λ (h : HeldClause). h.reference < low) (λ (h : HeldClause). h.reference < held.reference) (λ h p. omega arith) dh below in
+    let below_more = All-weaker (λ (h : HeldClause). h.reference < low) (λ (h : HeldClause). h.reference < held.reference + 1) (λ h p. omega arith) dh below in
+    let pushed = All-push (λ (h : HeldClause). h.reference < held.reference + 1) dh held below_more (omega arith) in
     let done : filter stays (dl ++ new_label ∷ []) ≡ filter stays dl = filter-append stays dl (new_label ∷ []) ∙ append-nil (filter stays dl) in
     record {
       done_labels = dl ++ new_label ∷ [];
@@ -138,11 +138,11 @@ step_parts which all_labels all_live dl rl dh rh label held low next new_live tr
       below = below_more;
       rises = rises;
       starts = Starts-behind (dh ++ held ∷ []) rh (held.reference + 1) next pushed rises
-          (subst (λ (hs : List Held). IsFirstFrom hs (held.reference + 1) next) (sym (push_assoc dh held rh)) first);
+          (subst (λ (hs : List HeldClause). IsFirstFrom hs (held.reference + 1) next) (sym (push_assoc dh held rh)) first);
     }
 
 -- the same, by the place of the label
-pub SweepHolds-step : (which : Which) (all_labels : List Label) (all_live : List Held) (labels : List Label) (live new_live : List Held) (place : ℕ) (clause : ClauseRef) (next : Option ClauseRef) (d : Label) (gone : Bool)
+pub SweepHolds-step : (which : Selection) (all_labels : List Label) (all_live : List HeldClause) (labels : List Label) (live new_live : List HeldClause) (place : ℕ) (clause : ClauseRef) (next : Option ClauseRef) (d : Label) (gone : Bool)
     → SweepHolds which all_labels all_live labels live place (Some clause) → IsFirstFrom live (clause.place + 1) next
     → DropsIf which (get_or labels place d).number clause.place live new_live gone
     → SweepHolds which all_labels all_live (set labels place (record (get_or labels place d) { goes = gone })) new_live (place + 1) next
@@ -154,7 +154,7 @@ SweepHolds-step which all_labels all_live labels live new_live place clause next
         let label = heads.0 in
         let rl = heads.1 in
         let labels_are : labels ≡ h.done_labels ++ label ∷ rl = h.labels_are ∙ ap (λ (ls : List Label). h.done_labels ++ ls) heads.2 in
-        let live_are : live ≡ h.done_live ++ held ∷ rh = h.live_are ∙ ap (λ (hs : List Held). h.done_live ++ hs) live_is in
+        let live_are : live ≡ h.done_live ++ held ∷ rh = h.live_are ∙ ap (λ (hs : List HeldClause). h.done_live ++ hs) live_is in
         let read : get_or labels place d ≡ label = ap (λ (ls : List Label). get_or ls place d) labels_are
         ∙ (ap (λ (n : ℕ). get_or (h.done_labels ++ label ∷ rl) n d) h.place_is ∙ get_or-middle h.done_labels label rl d) in
         let new_label : Label = record label { goes = gone } in
@@ -164,14 +164,14 @@ SweepHolds-step which all_labels all_live labels live new_live place clause next
         ∙ (ap (λ (n : ℕ). set (h.done_labels ++ label ∷ rl) n new_label) h.place_is ∙ set-middle h.done_labels label new_label rl)) in
         let rises : RisesFrom h.low (held ∷ rh) = subst (RisesFrom h.low) live_is h.rises in
         let parallel = ap length (sym heads.2) ∙ (h.rest_parallel ∙ ap length live_is) in
-        let shown = subst (λ (hs : List Held). labelled (filter stays h.done_labels) h.done_live ++ filter (is_kept which) (labelled (label ∷ rl) hs) ≡ filter (is_kept which) (labelled all_labels all_live)) live_is
+        let shown = subst (λ (hs : List HeldClause). labelled (filter stays h.done_labels) h.done_live ++ filter (is_kept which) (labelled (label ∷ rl) hs) ≡ filter (is_kept which) (labelled all_labels all_live)) live_is
         (subst (λ (ls : List Label). labelled (filter stays h.done_labels) h.done_live ++ filter (is_kept which) (labelled ls h.rest_live) ≡ filter (is_kept which) (labelled all_labels all_live)) heads.2 h.shown) in
         let stay = All-tail (λ (l : Label). l.goes ≡ false) label rl (subst (All (λ (l : Label). l.goes ≡ false)) heads.2 h.stay) in
         let first_now : IsFirstFrom (h.done_live ++ held ∷ rh) (held.reference + 1) next =
-        subst (λ (n : ℕ). IsFirstFrom (h.done_live ++ held ∷ rh) (n + 1) next) (sym same) (subst (λ (hs : List Held). IsFirstFrom hs (clause.place + 1) next) live_are first) in
+        subst (λ (n : ℕ). IsFirstFrom (h.done_live ++ held ∷ rh) (n + 1) next) (sym same) (subst (λ (hs : List HeldClause). IsFirstFrom hs (clause.place + 1) next) live_are first) in
         let dropped_now : DropsIf which label.number held.reference (h.done_live ++ held ∷ rh) new_live gone =
         subst (λ (n : ℕ). DropsIf which label.number n (h.done_live ++ held ∷ rh) new_live gone) (sym same)
-        (subst (λ (hs : List Held). DropsIf which label.number clause.place hs new_live gone) live_are
+        (subst (λ (hs : List HeldClause). DropsIf which label.number clause.place hs new_live gone) live_are
         (subst (λ (l : Label). DropsIf which l.number clause.place live new_live gone) read dropped)) in
         subst (λ (n : ℕ). SweepHolds which all_labels all_live (set labels place (record (get_or labels place d) { goes = gone })) new_live (n + 1) next) (sym h.place_is)
         (subst (λ (ls : List Label). SweepHolds which all_labels all_live ls new_live (length h.done_labels + 1) next) (sym written)
@@ -179,7 +179,7 @@ SweepHolds-step which all_labels all_live labels live new_live place clause next
         (omega (arith, parallel)) h.done_parallel shown stay h.below rises.0 rises.1 first_now dropped_now))
 
 -- the place is that of a label
-pub SweepHolds-within : (which : Which) (all_labels : List Label) (all_live : List Held) (labels : List Label) (live : List Held) (place : ℕ) (clause : ClauseRef)
+pub SweepHolds-within : (which : Selection) (all_labels : List Label) (all_live : List HeldClause) (labels : List Label) (live : List HeldClause) (place : ℕ) (clause : ClauseRef)
     → SweepHolds which all_labels all_live labels live place (Some clause) → place < length labels
 SweepHolds-within which all_labels all_live labels live place clause h =
     let long = ap length h.labels_are ∙ length-append h.done_labels h.rest_labels in
@@ -187,13 +187,13 @@ SweepHolds-within which all_labels all_live labels live place clause h =
     omega (arith, long, h.rest_parallel, rest, h.place_is)
 
 -- at the end of the sweep
-pub SweepHolds-all : (which : Which) (all_labels : List Label) (all_live : List Held) (labels : List Label) (live : List Held) (place : ℕ)
+pub SweepHolds-all : (which : Selection) (all_labels : List Label) (all_live : List HeldClause) (labels : List Label) (live : List HeldClause) (place : ℕ)
     → SweepHolds which all_labels all_live labels live place None → Drops which all_labels all_live labels live
 SweepHolds-all which all_labels all_live labels live place h =
     let no_live : h.rest_live ≡ [] = h.starts in
     let no_labels : h.rest_labels ≡ [] = none h.rest_labels (h.rest_parallel ∙ ap length no_live) in
     let labels_are : labels ≡ h.done_labels = h.labels_are ∙ (ap (λ (ls : List Label). h.done_labels ++ ls) no_labels ∙ append-nil h.done_labels) in
-    let live_are : live ≡ h.done_live = h.live_are ∙ (ap (λ (hs : List Held). h.done_live ++ hs) no_live ∙ append-nil h.done_live) in
+    let live_are : live ≡ h.done_live = h.live_are ∙ (ap (λ (hs : List HeldClause). h.done_live ++ hs) no_live ∙ append-nil h.done_live) in
     let rest : filter (is_kept which) (labelled h.rest_labels h.rest_live) ≡ [] = ap (λ (ls : List Label). filter (is_kept which) (labelled ls h.rest_live)) no_labels in
     record {
       shown = ap (λ (ls : List Label). labelled (filter stays ls) live) labels_are ∙ (ap (labelled (filter stays h.done_labels)) live_are
@@ -206,14 +206,14 @@ SweepHolds-all which all_labels all_live labels live place h =
     none (x ∷ xs) e = absurd (omega arith)
 
 -- the clause at hand is live
-pub SweepHolds-live : (which : Which) (all_labels : List Label) (all_live : List Held) (labels : List Label) (live : List Held) (place : ℕ) (clause : ClauseRef)
-    → SweepHolds which all_labels all_live labels live place (Some clause) → (held : Held) × Contains live held × (held.reference ≡ clause.place)
+pub SweepHolds-live : (which : Selection) (all_labels : List Label) (all_live : List HeldClause) (labels : List Label) (live : List HeldClause) (place : ℕ) (clause : ClauseRef)
+    → SweepHolds which all_labels all_live labels live place (Some clause) → (held : HeldClause) × Contains live held × (held.reference ≡ clause.place)
 SweepHolds-live which all_labels all_live labels live place clause h = by_parts h.starts
   where
-    by_parts : Starts h.rest_live (Some clause) → (held : Held) × Contains live held × (held.reference ≡ clause.place)
+    by_parts : Starts h.rest_live (Some clause) → (held : HeldClause) × Contains live held × (held.reference ≡ clause.place)
     by_parts (held, rh, is, same) = (
       held,
-      subst (λ (hs : List Held). Contains hs held) (sym h.live_are) (Contains-append_right h.done_live h.rest_live held
-          (subst (λ (hs : List Held). Contains hs held) (sym is) (Contains-head held rh held refl))),
+      subst (λ (hs : List HeldClause). Contains hs held) (sym h.live_are) (Contains-append_right h.done_live h.rest_live held
+          (subst (λ (hs : List HeldClause). Contains hs held) (sym is) (Contains-head held rh held refl))),
       same,
     )

@@ -5,7 +5,7 @@ use Rattle.std.proofs.lemmas.List.{get_or-take, get_or_default, length-take}
 use Rattle.std.proofs.lemmas.List.Sums.{sum_by-cons, sum_by_push, sum_by-append, sum_by_more, sum_by-le}
 use Rattle.clause_meaning.specs.Literals.{variable_of, HaveDistinctVariables}
 use Rattle.clause_meaning.proofs.Members.{Contains-head, Contains-tail}
-use Rattle.clause_arena.specs.State.{Held}
+use Rattle.clause_arena.specs.State.{HeldClause}
 use Rattle.cdcl_core.specs.Store.{tally, occurrences, AreProper}
 
 -- one where the literal has the variable
@@ -68,16 +68,16 @@ tally-le_one v (x ∷ xs) distinct = step (eqb (variable_of x) v) refl (tally-le
         omega (arith, all, none)
 
 -- a variable stands in at most as many clauses as there are
-pub occurrences-le : (v n : ℕ) (live : List Held) → AreProper n live → occurrences v live ≤ length live
+pub occurrences-le : (v n : ℕ) (live : List HeldClause) → AreProper n live → occurrences v live ≤ length live
 occurrences-le v n live proper =
-    let bound = sum_by-le (λ (h : Held). tally v h.literals) 1 live (λ k d p. tally-le_one v (get_or live k d).literals (proper k d p).distinct) in
+    let bound = sum_by-le (λ (h : HeldClause). tally v h.literals) 1 live (λ k d p. tally-le_one v (get_or live k d).literals (proper k d p).distinct) in
     omega (arith, bound)
 
-pub occurrences_push : (v : ℕ) (live : List Held) (h : Held) → occurrences v (live ++ h ∷ []) ≡ occurrences v live + tally v h.literals
-occurrences_push v live h = sum_by_push (λ (x : Held). tally v x.literals) live h
+pub occurrences_push : (v : ℕ) (live : List HeldClause) (h : HeldClause) → occurrences v (live ++ h ∷ []) ≡ occurrences v live + tally v h.literals
+occurrences_push v live h = sum_by_push (λ (x : HeldClause). tally v x.literals) live h
 
-pub occurrences-append : (v : ℕ) (xs ys : List Held) → occurrences v (xs ++ ys) ≡ occurrences v xs + occurrences v ys
-occurrences-append v xs ys = sum_by-append (λ (x : Held). tally v x.literals) xs ys
+pub occurrences-append : (v : ℕ) (xs ys : List HeldClause) → occurrences v (xs ++ ys) ≡ occurrences v xs + occurrences v ys
+occurrences-append v xs ys = sum_by-append (λ (x : HeldClause). tally v x.literals) xs ys
 
-pub occurrences-cons : (v : ℕ) (h : Held) (live : List Held) → occurrences v (h ∷ live) ≡ tally v h.literals + occurrences v live
-occurrences-cons v h live = sum_by-cons (λ (x : Held). tally v x.literals) h live
+pub occurrences-cons : (v : ℕ) (h : HeldClause) (live : List HeldClause) → occurrences v (h ∷ live) ≡ tally v h.literals + occurrences v live
+occurrences-cons v h live = sum_by-cons (λ (x : HeldClause). tally v x.literals) h live

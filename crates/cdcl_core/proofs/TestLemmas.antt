@@ -1,41 +1,19 @@
--- Clauses of two and three literals in the tests, and what stays after a search.
-use Rattle.std.proofs.Common.{◌≡◌, ◌≢◌, ◌<◌, ◌+◌, ℕ, zero, suc, ◌≤◌, ◌⊎◌, List, [], ◌∷◌, inl, inr, All, Contains, None, Bool, true, false, get_or, refl, sym, subst, ap, ◌∙◌, arith}
+-- What stays after a search in the tests.
+use Rattle.std.proofs.Common.{◌≡◌, ◌<◌, ◌+◌, ℕ, zero, suc, ◌≤◌, List, [], ◌∷◌, inl, inr, All, Contains, None, Bool, true, false, get_or, refl, sym, subst, ap, ◌∙◌, arith}
 use Rattle.std.proofs.lemmas.List.Elements.{All-cons, All-nil, All-contains, Contains-get_or, Contains-push_cases}
 use Rattle.std.proofs.lemmas.List.Sorted.{IsPermutation-sym, Contains-permutation}
-use Rattle.std.proofs.lemmas.List.Kept.{AllPairs-cons}
-use Rattle.clause_meaning.specs.Literals.{variable_of, HaveDistinctVariables, AreBelow}
+use Rattle.clause_meaning.specs.Literals.{variable_of, AreBelow}
 use Rattle.clause_meaning.specs.Assignments.{IsInside}
 use Rattle.clause_meaning.specs.Learning.{is_in, IsOneSided}
 use Rattle.clause_meaning.proofs.Members.{Contains-cons_cases, Contains-nil}
 use Rattle.cdcl_core.specs.declared.outcome.Budget.{Budget}
-use Rattle.cdcl_core.specs.State.{State, LiveClause, LiveIn, AscendsAs, AddsClause, with_given}
+use Rattle.cdcl_core.specs.State.{State, LiveClause, AscendsAs, AddsClause}
 use Rattle.cdcl_core.specs.Logs.{Learned}
 use Rattle.cdcl_core.specs.Learning.{AreLearned, with_learned, with_all}
 use Rattle.cdcl_core.specs.Solving.{Learns, cleared}
 use Rattle.cdcl_core.specs.Trials.{IsSmall, IsParted}
 use Rattle.cdcl_core.proofs.Seeks.{contains_in}
 use Rattle.cdcl_core.proofs.Runs.{live_cases, next_after}
-
-abbrev Differ : ℕ → ℕ → Type 0
-Differ k l = variable_of k ≢ variable_of l
-
-pub distinct_two : (k l : ℕ) → variable_of k ≢ variable_of l → HaveDistinctVariables (k ∷ l ∷ [])
-distinct_two k l n =
-    AllPairs-cons Differ k (l ∷ []) (All-cons (Differ k) l [] n (All-nil (Differ k)))
-    (AllPairs-cons Differ l [] (All-nil (Differ l)) (λ i j d h p. absurd (omega arith)))
-
-pub below_two : (n k l : ℕ) → variable_of k < n → variable_of l < n → AreBelow n (k ∷ l ∷ [])
-below_two n k l p q = All-cons (λ x. variable_of x < n) k (l ∷ []) p (All-cons (λ x. variable_of x < n) l [] q (All-nil (λ x. variable_of x < n)))
-
-pub below_one : (n l : ℕ) → variable_of l < n → AreBelow n (l ∷ [])
-below_one n l p = All-cons (λ x. variable_of x < n) l [] p (All-nil (λ x. variable_of x < n))
-
-pub distinct_three : (k l m : ℕ) → variable_of k ≢ variable_of l → variable_of k ≢ variable_of m → variable_of l ≢ variable_of m → HaveDistinctVariables (k ∷ l ∷ m ∷ [])
-distinct_three k l m kl km lm =
-    AllPairs-cons Differ k (l ∷ m ∷ []) (All-cons (Differ k) l (m ∷ []) kl (All-cons (Differ k) m [] km (All-nil (Differ k)))) (distinct_two l m lm)
-
-pub below_three : (n k l m : ℕ) → variable_of k < n → variable_of l < n → variable_of m < n → AreBelow n (k ∷ l ∷ m ∷ [])
-below_three n k l m p q r = All-cons (λ x. variable_of x < n) k (l ∷ m ∷ []) p (below_two n l m q r)
 
 -- a clause inside a scope of small variables
 inside_below : (n : ℕ) (scope clause : List ℕ) → All (λ (v : ℕ). v < n) scope → IsInside (is_in scope) clause → AreBelow n clause

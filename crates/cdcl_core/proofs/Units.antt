@@ -7,19 +7,20 @@ use Rattle.clause_meaning.specs.Literals.{opposite_of, variable_of}
 use Rattle.clause_meaning.specs.Refutation.{Refutes}
 use Rattle.clause_meaning.proofs.Members.{Contains-nil, Contains-cons_cases}
 use Rattle.clause_meaning.proofs.Chains.{Reaches-forced, Refutes-from_clash}
-use Rattle.clause_arena.specs.State.{State as Arena, Held, Names, IsLive, LiveIn}
+use Rattle.clause_arena.specs.State.{State as Arena, HeldClause, Names, IsLive, LiveIn}
 use Rattle.clause_arena.specs.Walk.{IsFirstFrom}
 use Rattle.clause_arena.specs.declared.clause_ref.ClauseRef.{ClauseRef}
-use Rattle.cdcl_trail.specs.declared.entry.Entry.{Entry}
+use Rattle.cdcl_trail.specs.declared.trail_entry.TrailEntry.{TrailEntry}
 use Rattle.cdcl_trail.specs.Assigned.{IsTrueOn}
 use Rattle.cdcl_trail.specs.State.{State}
 use Rattle.cdcl_trail.specs.Fits.{Fits, IsBefore}
-use Rattle.conflict_analysis.specs.Levels.{IsKnownAt}
+use Rattle.cdcl_trail.proofs.Passes.{live_first, behind}
+use Rattle.clause_learning.specs.Levels.{IsKnownAt}
 use Rattle.clause_meaning.specs.Learning.{is_in, Nothing}
-use Rattle.conflict_analysis.specs.Searching.{Searched, UnitsStand}
-use Rattle.conflict_analysis.proofs.LevelFacts.{true_known, IsKnownAt-append}
-use Rattle.conflict_analysis.proofs.Reached.{named_live, unit_forces, fixed_reached}
-use Rattle.conflict_analysis.proofs.Keeping.{IsSearching-fix}
+use Rattle.clause_learning.specs.Searching.{Searched, UnitsStand}
+use Rattle.clause_learning.proofs.LevelFacts.{true_known, IsKnownAt-append}
+use Rattle.clause_learning.proofs.Reached.{named_live, unit_forces, fixed_reached}
+use Rattle.clause_learning.proofs.Keeping.{IsSearching-fix}
 use Rattle.cdcl_core.specs.Seeking.{IsSameQuestion, Fixes, Begins, StandsAt, Extends}
 
 -- what is true on level 0 is known there
@@ -64,7 +65,7 @@ pub Extends-same : (trail : State) → Extends trail trail
 Extends-same trail = ([], sym (append-nil trail.entries))
 
 pub Extends-trans : (a b c : State) → Extends a b → Extends b c → Extends a c
-Extends-trans a b c (xs, e) (ys, f) = (xs ++ ys, f ∙ (ap (λ (es : List Entry). es ++ ys) e ∙ append_assoc a.entries xs ys))
+Extends-trans a b c (xs, e) (ys, f) = (xs ++ ys, f ∙ (ap (λ (es : List TrailEntry). es ++ ys) e ∙ append_assoc a.entries xs ys))
 
 pub Extends-fixed : (old new : State) (l : ℕ) (answer : Bool) → Fixes old new l answer → Extends old new
 Extends-fixed old new l true (inl (same, on)) = subst (Extends old) (sym same) (Extends-same old)
@@ -75,7 +76,7 @@ Extends-fixed old new l false (same, on) = subst (Extends old) (sym same) (Exten
 known_fixed : (old new : State) (arena : Arena) (l : ℕ) → Begins old arena → Fixes old new l true → IsKnownAt new.entries 0 l
 known_fixed old new arena l b (inl (same, on)) = subst (λ (s : State). IsKnownAt s.entries 0 l) (sym same) (known_at_zero old arena l b on)
 known_fixed old new arena l b (inr (same, free)) =
-    let e : Entry = record { literal = l; level = old.level; reason = None } in
+    let e : TrailEntry = record { literal = l; level = old.level; reason = None } in
     let m = Contains-push old.entries e in
     let low = b.on_zero in
     subst (λ (s : State). IsKnownAt s.entries 0 l) (sym same) (m.0, e, m.1, m.2, (refl, omega (arith, low)))
@@ -99,7 +100,7 @@ clash_fixed old new arena l false b unit (same, on) told =
 
 -- the units behind which the walk is stand
 abbrev pub StandBefore : State → Arena → Option ClauseRef → Type 0
-StandBefore trail arena at = (held : Held) → Contains arena.live held → IsBefore held.reference at → StandsAt trail held.literals
+StandBefore trail arena at = (held : HeldClause) → Contains arena.live held → IsBefore held.reference at → StandsAt trail held.literals
 
 -- what the walk over the units keeps
 pub record UnitsHold (old trail : State) (arena : Arena) (at : Option ClauseRef) : Type 0 where
@@ -107,10 +108,6 @@ pub record UnitsHold (old trail : State) (arena : Arena) (at : Option ClauseRef)
   pub same : IsSameQuestion old trail
   pub stand : StandBefore trail arena at
   pub live : IfSome at (λ (r : ClauseRef). IsLive arena r.place)
-
-first_live : (arena : Arena) (low : ℕ) (at : Option ClauseRef) → IsFirstFrom arena.live low at → IfSome at (λ (r : ClauseRef). IsLive arena r.place)
-first_live arena low None first = tt
-first_live arena low (Some r) first = first.2
 
 none_before : (trail : State) (arena : Arena) (at : Option ClauseRef) → IsFirstFrom arena.live 0 at → StandBefore trail arena at
 none_before trail arena None first held m before u = absurd (omega (arith, All-contains (λ h. h.reference < 0) arena.live held first m))
@@ -121,16 +118,12 @@ UnitsHold-start trail arena at b first = record {
   begins = b;
   same = record { variables = refl; focus = refl; counts = refl };
   stand = none_before trail arena at first;
-  live = first_live arena 0 at first;
+  live = live_first arena 0 at first;
 }
-
-is_behind : (arena : Arena) (r : ClauseRef) (at : Option ClauseRef) (held : Held) → IsFirstFrom arena.live (r.place + 1) at → Contains arena.live held → IsBefore held.reference at → held.reference < r.place + 1
-is_behind arena r None held first m before = All-contains (λ h. h.reference < r.place + 1) arena.live held first m
-is_behind arena r (Some s) held first m before = All-contains (λ h. h.reference < s.place → h.reference < r.place + 1) arena.live held first.3 m before
 
 pub StandsAt-extends : (old new : State) (clause : List ℕ) → Extends old new → new.focus ≡ old.focus → StandsAt old clause → StandsAt new clause
 StandsAt-extends old new clause (more, e) focus stands u unit here =
-    subst (λ (es : List Entry). IsKnownAt es 0 u) (sym e)
+    subst (λ (es : List TrailEntry). IsKnownAt es 0 u) (sym e)
     (IsKnownAt-append old.entries more 0 u (stands u unit (subst (λ (vs : List ℕ). is_in vs (variable_of u) ≡ true) focus here)))
 
 pub IsSameQuestion-trans : (a b c : State) → IsSameQuestion a b → IsSameQuestion b c → IsSameQuestion a c
@@ -143,9 +136,9 @@ UnitsHold-next old trail new arena r at h first begins same extends here = recor
   same = IsSameQuestion-trans old trail new h.same same;
   stand = λ held m before. elim (cases_eq held.reference r.place) [
     | inl e ↦ here held.literals (subst (λ (n : ℕ). Contains arena.live (record { reference = n; literals = held.literals })) e m)
-    | inr n ↦ StandsAt-extends trail new held.literals extends same.focus (h.stand held m (let close = is_behind arena r at held first m before in omega (arith, close, n)))
+    | inr n ↦ StandsAt-extends trail new held.literals extends same.focus (h.stand held m (let close = behind arena r at held first m before in omega (arith, close, n)))
   ];
-  live = first_live arena (r.place + 1) at first;
+  live = live_first arena (r.place + 1) at first;
 }
 
 -- at the end all stand

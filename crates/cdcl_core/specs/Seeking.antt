@@ -5,15 +5,15 @@ use Rattle.clause_meaning.specs.Refutation.{Refutes}
 use Rattle.clause_meaning.specs.Assignments.{IsInside}
 use Rattle.clause_arena.specs.State.{State as Arena, LiveIn, Holds, with_clause}
 use Rattle.clause_arena.specs.declared.clause_ref.ClauseRef.{ClauseRef}
-use Rattle.cdcl_trail.specs.declared.entry.Entry.{Entry}
+use Rattle.cdcl_trail.specs.declared.trail_entry.TrailEntry.{TrailEntry}
 use Rattle.cdcl_trail.specs.Assigned.{IsTrueOn, IsUnassigned}
 use Rattle.cdcl_trail.specs.State.{State, with_entry}
-use Rattle.cdcl_trail.specs.Fits.{IsConflict}
+use Rattle.cdcl_trail.specs.Fits.{IsFalsified}
 use Rattle.cdcl_trail.specs.Choices.{AreAssigned}
-use Rattle.conflict_analysis.specs.Levels.{IsKnownAt}
+use Rattle.clause_learning.specs.Levels.{IsKnownAt}
 use Rattle.clause_meaning.specs.Learning.{is_in, OccursIn}
-use Rattle.conflict_analysis.specs.Searching.{Searched, IsSearching, AreAssumed, UnitsStand}
-use Rattle.conflict_analysis.specs.Lessons.{IsLesson}
+use Rattle.clause_learning.specs.Searching.{Searched, IsSearching, AreAssumed, UnitsStand}
+use Rattle.clause_learning.specs.Lessons.{IsLesson}
 use Rattle.cdcl_core.specs.declared.seeking.Asked.{Asked}
 use Rattle.cdcl_core.specs.declared.seeking.Asked.TheVariants as asked
 use Rattle.cdcl_core.specs.declared.seeking.Step.{Step}
@@ -26,7 +26,7 @@ use Rattle.cdcl_core.specs.declared.outcome.Outcome.TheVariants as outcome
 use Rattle.cdcl_core.specs.declared.outcome.SolveFault.{SolveFault}
 use Rattle.cdcl_core.specs.declared.outcome.SolveFault.TheVariants as fault
 use Rattle.cdcl_core.specs.State.{State as Shown, LiveIn as ShownLive}
-use Rattle.cdcl_core.specs.Store.{Parts, AreCounted}
+use Rattle.cdcl_core.specs.Store.{StoreState, AreCounted}
 use Rattle.cdcl_core.specs.Shown.{literals_on}
 use Rattle.cdcl_core.specs.Changes.{live_in}
 use Rattle.cdcl_core.specs.Logs.{Learned, LogContent, Appends, TearsAt, Rises}
@@ -71,10 +71,10 @@ StandsAt trail clause = (u : ℕ) → clause ≡ u ∷ [] → is_in trail.focus 
 
 -- new entries come last
 abbrev pub Extends : State → State → Type 0
-Extends old new = (more : List Entry) × (new.entries ≡ old.entries ++ more)
+Extends old new = (more : List TrailEntry) × (new.entries ≡ old.entries ++ more)
 
 -- what stands in the way of the assumptions
-abbrev pub Asks : List Entry → List ℕ → Asked → Type 0
+abbrev pub Asks : List TrailEntry → List ℕ → Asked → Type 0
 Asks entries assume asked.AreTrue = (l : ℕ) → Contains assume l → IsTrueOn entries l
 Asks entries assume (asked.IsFalse l) = Contains assume l × IsTrueOn entries (opposite_of l)
 Asks entries assume (asked.IsOpen l) = Contains assume l × IsUnassigned entries (variable_of l)
@@ -95,22 +95,22 @@ Steps assume old new arena step.Refuted = Refutes (Searched new arena) (Contains
 Steps assume old new arena step.Model = IsModelOn assume new arena
 Steps assume old new arena (step.Goes assumed) = Seeks assume new arena assumed × (length old.entries < length new.entries)
 
--- where a search stops: at the end, or at a conflict above the assumptions
+-- where a search stops: at the end, or at a clause that is falsified above the assumptions
 abbrev pub Stops : List ℕ → State → Arena → Stop → Type 0
 Stops assume trail arena stop.Refuted = Refutes (Searched trail arena) (Contains assume)
 Stops assume trail arena stop.Model = IsModelOn assume trail arena
-Stops assume trail arena (stop.Conflict clause assumed) = Seeks assume trail arena assumed × (assumed < trail.level) × IsConflict trail arena clause
+Stops assume trail arena (stop.Falsified clause assumed) = Seeks assume trail arena assumed × (assumed < trail.level) × IsFalsified trail arena clause
 
 -- what a solver with such a store shows, without values
-abbrev pub bare : Parts → Shown
+abbrev pub bare : StoreState → Shown
 bare parts = record { variables = parts.arena.variables; live = live_in parts; next = parts.next; values = None }
 
 -- the same by what the store shows
-abbrev pub StoreStops : List ℕ → Parts → Stop → Type 0
+abbrev pub StoreStops : List ℕ → StoreState → Stop → Type 0
 StoreStops assume parts stop.Refuted = IsRefuted (bare parts) parts.trail.focus assume
 StoreStops assume parts stop.Model = IsModelOf (ShownLive (bare parts)) parts.trail.focus assume (literals_on parts.trail.entries)
-StoreStops assume parts (stop.Conflict clause assumed) = Seeks assume parts.trail parts.arena assumed × (assumed < parts.trail.level)
-    × IsConflict parts.trail parts.arena clause × (IsRefuted (bare parts) parts.trail.focus assume → ⊥)
+StoreStops assume parts (stop.Falsified clause assumed) = Seeks assume parts.trail parts.arena assumed × (assumed < parts.trail.level)
+    × IsFalsified parts.trail parts.arena clause × (IsRefuted (bare parts) parts.trail.focus assume → ⊥)
 
 -- the trail after a lesson: cut back, with the asserting literal last
 pub record IsAfter (before : Arena) (trail : State) (arena : Arena) (reference : ClauseRef) (clause : List ℕ) (asserting back : ℕ) : Type 0 where
@@ -145,7 +145,7 @@ is_model_of outcome.Refuted = false
 is_model_of outcome.Spent = false
 
 -- what an outcome says, by what the store shows
-abbrev pub StoreEnds : Parts → List ℕ → List ℕ → Budget → Outcome → Type 0
+abbrev pub StoreEnds : StoreState → List ℕ → List ℕ → Budget → Outcome → Type 0
 StoreEnds parts scope assume budget outcome.Refuted = IsRefuted (bare parts) scope assume
 StoreEnds parts scope assume budget outcome.Spent = (budget.used ≡ budget.limit) × (IsRefuted (bare parts) scope assume → ⊥)
 StoreEnds parts scope assume budget outcome.Model = IsModelOf (ShownLive (bare parts)) scope assume (literals_on parts.trail.entries)

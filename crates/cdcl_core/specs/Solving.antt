@@ -9,7 +9,7 @@ use Rattle.cdcl_core.specs.declared.outcome.SolveFault.{SolveFault}
 use Rattle.cdcl_core.specs.declared.outcome.SolveFault.TheVariants as fault
 use Rattle.cdcl_core.specs.declared.outcome.Budget.{Budget}
 use Rattle.cdcl_core.specs.State.{State, LiveIn, value_in}
-use Rattle.cdcl_core.specs.Store.{IsAscending}
+use Rattle.cq_terms.specs.Lists.{IsAscending}
 use Rattle.cdcl_core.specs.Logs.{Learned, LogContent, IsWhole, Rises}
 use Rattle.cdcl_core.specs.Learning.{IsRefuted, MayLearn, AreLearned, JoinNothing, with_all}
 

@@ -17,7 +17,7 @@ pub struct Label {
 
 /// Which clauses are dropped.
 #[derive(Clone, Copy)]
-pub enum Which {
+pub enum Selection {
     /// Those with a literal of the variable.
     With(u32),
     /// The learned clause of the number.
@@ -36,14 +36,14 @@ impl Label {
     }
 }
 
-impl Which {
+impl Selection {
     /// Whether the clause is among them.
     pub fn takes(self, number: Option<u64>, literals: &[u32]) -> bool
         ensures { result ≡ is_taken self (record { number = number; literals = literals.now }) }
     {
         match self {
-            Which::With(variable) => has_variable(literals, variable),
-            Which::Numbered(wanted) => match number {
+            Selection::With(variable) => has_variable(literals, variable),
+            Selection::Numbered(wanted) => match number {
                 Some(number) => number == wanted,
                 None => false,
             },

@@ -1,6 +1,6 @@
 //! A log in memory, seen as its clauses with their numbers, and when it fails.
 
-ghost use Rattle.std.specs.Prelude.{◌≡◌, false, IfErr, IfOk, OnOk, Some, None, IsTrue, ◌↔◌, OnErr, Err};
+ghost use Rattle.std.specs.Prelude.{◌≡◌, false, IfErr, OnOk, Some, None, IsTrue, ◌↔◌, OnErr, Err};
 ghost use Rattle.cdcl_core.specs.Logs.{IsWhole, Appends, Tears, RisesAt};
 ghost use Rattle.cdcl_core.specs.MemLogs.{empty_log, content_of, is_call, with_call, with_failure};
 
@@ -112,17 +112,6 @@ impl MemLog {
     }
 }
 
-/// A copy of the literals.
-fn copied(alloc: Global, literals: &[u32]) -> Result<Ids, NoMemory>
-    ensures { IfOk result (λ ids. ids ≡ literals.now) }
-{
-    let mut ids = Ids::new(alloc);
-    for literal in literals {
-        ids.push(*literal)?;
-    }
-    Ok(ids)
-}
-
 impl ProofLog for MemLog {
     ghost content = { λ log. Some (content_of log) };
 
@@ -140,7 +129,7 @@ impl ProofLog for MemLog {
         ensures passes { OnOk result (is_call self.old.calls self.old.fail_at ≡ false) }
         ensures kept { OnOk result (self.new ≡ with_call self.old number clause.now) }
     {
-        let copy = match copied(*self.numbers.allocator(), clause) {
+        let copy = match Ids::from_slice(*self.numbers.allocator(), clause) {
             Ok(copy) => copy,
             Err(NoMemory) => return Err(LogFault::NoMemory),
         };

@@ -1,4 +1,4 @@
-//! The search: it goes on to a conflict, learns from it and goes on, until it ends or the budget is used up.
+//! The search: it goes on until a clause is falsified, learns from it and goes on, until it ends or the budget is used up.
 
 ghost use Rattle.std.specs.Prelude.{◌≡◌, ◌<◌, ◌≤◌, List, IfOk, OnErr};
 ghost use Rattle.cdcl_core.specs.Logs.{Learned, IsWhole};
@@ -36,7 +36,7 @@ pub fn seek<L: ProofLog>(
         match store.advance(assume, assumed) {
             Stop::Refuted => return Ok(Outcome::Refuted),
             Stop::Model => return Ok(Outcome::Model),
-            Stop::Conflict(clause, level) => {
+            Stop::Falsified(clause, level) => {
                 if budget.used == budget.limit {
                     return Ok(Outcome::Spent);
                 }

@@ -7,19 +7,19 @@ ghost use Rattle.clause_meaning.specs.Literals.{variable_of, AreBelow};
 ghost use Rattle.clause_meaning.specs.Refutation.{Refutes};
 ghost use Rattle.clause_meaning.specs.Assignments.{IsInside, Separates};
 ghost use Rattle.clause_arena.specs.State.{State as Arena, LiveIn, IsLive, Names};
-ghost use Rattle.cdcl_trail.specs.Fits.{Fits, IsComplete, IsConflict};
+ghost use Rattle.cdcl_trail.specs.Fits.{Fits, IsComplete, IsFalsified};
 ghost use Rattle.cdcl_trail.specs.Choices.{DifferInPairs};
 ghost use Rattle.clause_meaning.specs.Learning.{is_in, Nothing};
-ghost use Rattle.conflict_analysis.specs.Searching.{Searched, IsProper, IsSearching, UnitsStand};
-ghost use Rattle.conflict_analysis.specs.Lessons.{IsLesson};
+ghost use Rattle.clause_learning.specs.Searching.{Searched, IsProper, IsSearching, UnitsStand};
+ghost use Rattle.clause_learning.specs.Lessons.{IsLesson};
 ghost use Rattle.cdcl_trail.specs.State.{State as Trail};
 ghost use Rattle.cdcl_core.specs.Store.{AreCounted, OnlyCounts};
 ghost use Rattle.cdcl_core.specs.Seeking.{Seeks, IsSameQuestion, Fixes, Begins, StandsAt, Extends, Asks, Guesses, Steps, Stops, IsAfter};
 
 use cdcl_trail::Trail;
 use clause_arena::{Arena, ClauseRef};
+use clause_learning::{Lesson, Marks, analyse};
 use clause_meaning::{literal_of, variable_of};
-use conflict_analysis::{Lesson, Marks, analyse};
 use cq_terms::NoMemory;
 use std::alloc::Global;
 
@@ -53,7 +53,7 @@ pub enum Stop {
     /// The values are a model.
     Model,
     /// The clause is false, and a literal above the level of the last assumption was guessed.
-    Conflict(ClauseRef, u32),
+    Falsified(ClauseRef, u32),
 }
 
 /// Fixes the literal of a unit clause, unless it is assigned. It answers whether it is true then.
@@ -195,10 +195,10 @@ fn take_step(trail: &mut Trail, arena: &Arena, assume: &[u32], assumed: u32) -> 
     }
 }
 
-/// Where a conflict leaves the search: the assumptions are refuted where each guess is one.
-fn conflict(trail: &Trail, arena: &Arena, assume: &[u32], clause: ClauseRef, assumed: u32) -> Stop
+/// Where a falsified clause leaves the search: the assumptions are refuted where each guess is one.
+fn stop_at(trail: &Trail, arena: &Arena, assume: &[u32], clause: ClauseRef, assumed: u32) -> Stop
     requires seeks { Seeks assume.now trail.now arena.now assumed }
-    requires conflict { IsConflict trail.now arena.now clause }
+    requires falsified { IsFalsified trail.now arena.now clause }
 
     ensures { Stops assume.now trail.now arena.now result }
 {
@@ -207,11 +207,11 @@ fn conflict(trail: &Trail, arena: &Arena, assume: &[u32], clause: ClauseRef, ass
     if trail.level() <= assumed {
         Stop::Refuted
     } else {
-        Stop::Conflict(clause, assumed)
+        Stop::Falsified(clause, assumed)
     }
 }
 
-/// Goes on until the search ends or has a conflict above the assumptions.
+/// Goes on until the search ends or a clause is falsified above the assumptions.
 pub fn advance(trail: &mut Trail, arena: &Arena, assume: &[u32], assumed: u32) -> Stop
     requires few { trail.old.variables ≤ 2 ^ 31 }
     requires seeks { Seeks assume.now trail.old arena.now assumed }
@@ -222,7 +222,7 @@ pub fn advance(trail: &mut Trail, arena: &Arena, assume: &[u32], assumed: u32) -
     let mut assumed = assumed;
     loop {
         if let Some(clause) = trail.propagate(arena) {
-            return conflict(trail, arena, assume, clause, assumed);
+            return stop_at(trail, arena, assume, clause, assumed);
         }
         match take_step(trail, arena, assume, assumed) {
             Step::Refuted => return Stop::Refuted,
@@ -232,16 +232,16 @@ pub fn advance(trail: &mut Trail, arena: &Arena, assume: &[u32], assumed: u32) -
     }
 }
 
-/// What a conflict teaches, by its ascending literals.
+/// What a falsified clause teaches, by its ascending literals.
 pub fn lesson_of(
     alloc: Global,
     trail: &Trail,
     arena: &Arena,
-    conflict: ClauseRef,
+    falsified: ClauseRef,
     marks: &mut Marks,
 ) -> Result<Lesson, NoMemory>
     requires searching { IsSearching trail.now arena.now }
-    requires conflict { IsConflict trail.now arena.now conflict }
+    requires falsified { IsFalsified trail.now arena.now falsified }
     requires guessed { 0 < trail.now.level }
     requires marks { marks.old ≡ trail.now.variables }
 
@@ -250,7 +250,7 @@ pub fn lesson_of(
     ensures ascending { IfOk result (λ lesson. IsSorted nat_cmp lesson.literals.items) }
     ensures marks { marks.new ≡ marks.old }
 {
-    let mut lesson = analyse(alloc, trail, arena, conflict, marks)?;
+    let mut lesson = analyse(alloc, trail, arena, falsified, marks)?;
     lesson.literals.sort_unstable();
     Ok(lesson)
 }

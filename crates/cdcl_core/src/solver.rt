@@ -3,11 +3,11 @@
 ghost use Rattle.std.specs.Prelude.{◌≡◌, ◌≢◌, List, ◌<◌, ◌≤◌, ◌^◌, [], None, Some, length, IfOk, OnOk, OnErr, IfSome, false, Contains};
 ghost use Rattle.clause_meaning.specs.Literals.{AreBelow, HaveDistinctVariables};
 ghost use Rattle.cdcl_core.specs.State.{empty_solver, AddsClause, numbers_in, value_in, without_variable, without_number};
-ghost use Rattle.cdcl_core.specs.Store.{IsAscending};
+ghost use Rattle.cq_terms.specs.Lists.{IsAscending};
 ghost use Rattle.cdcl_core.specs.Logs.{Learned, IsWhole};
 ghost use Rattle.cdcl_core.specs.Solving.{AreAskable, Affords, Learns, LogEnds, Ends, cleared};
 
-use crate::labels::Which;
+use crate::labels::Selection;
 use crate::outcome::{Budget, Outcome, SolveFault};
 use crate::proof_log::ProofLog;
 use crate::seek::{is_model, seek};
@@ -73,7 +73,7 @@ impl Solver {
             record self.old { live = without_variable self.old.live variable; values = None } }
     {
         self.found = false;
-        self.store.drop_clauses(Which::With(variable));
+        self.store.drop_clauses(Selection::With(variable));
     }
 
     /// Drops the learned clause of a number.
@@ -84,7 +84,7 @@ impl Solver {
             record self.old { live = without_number self.old.live number; values = None } }
     {
         self.found = false;
-        self.store.drop_clauses(Which::Numbered(number));
+        self.store.drop_clauses(Selection::Numbered(number));
     }
 
     /// Closes the gaps that dropped clauses left in memory.

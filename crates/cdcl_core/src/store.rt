@@ -4,14 +4,15 @@ ghost use Rattle.std.specs.Prelude.{◌≡◌, ◌<◌, ◌≤◌, ◌-◌, ◌^
 ghost use Rattle.clause_arena.specs.State.{Holds, IsLive, AreAscending, with_clause};
 ghost use Rattle.cdcl_core.specs.State.{AscendsAs, numbers_in, value_in, put_number};
 ghost use Rattle.cdcl_core.specs.Labels.{numbers_on, stays, Drops, DropsIf};
-ghost use Rattle.cdcl_core.specs.Store.{AreCounted, AreProper, IsProper, IsAscending, OnlyCounts};
+ghost use Rattle.cq_terms.specs.Lists.{IsAscending};
+ghost use Rattle.cdcl_core.specs.Store.{AreCounted, AreProper, IsProper, OnlyCounts};
 ghost use Rattle.cdcl_core.specs.Shown.{literals_on};
 ghost use Rattle.cdcl_core.specs.Changes.{AddsGiven, DropsClauses, IsSameStore, live_in};
 ghost use Rattle.clause_meaning.specs.Assignments.{IsInside, Separates};
-ghost use Rattle.cdcl_trail.specs.Fits.{IsConflict};
+ghost use Rattle.cdcl_trail.specs.Fits.{IsFalsified};
 ghost use Rattle.clause_meaning.specs.Learning.{is_in};
-ghost use Rattle.conflict_analysis.specs.Searching.{IsSearching, Searched};
-ghost use Rattle.conflict_analysis.specs.Lessons.{IsLesson};
+ghost use Rattle.clause_learning.specs.Searching.{IsSearching, Searched};
+ghost use Rattle.clause_learning.specs.Lessons.{IsLesson};
 ghost use Rattle.std.specs.List.Sorted.{IsSorted};
 ghost use Rattle.std.specs.Ordering.{nat_cmp};
 ghost use Rattle.cdcl_core.specs.Logs.{IsWhole, Appends, TearsAt, Rises};
@@ -20,14 +21,14 @@ ghost use Rattle.cdcl_core.specs.Learning.{IsRefuted};
 ghost use Rattle.cdcl_core.specs.Seeking.{Seeks, StoreStops, LearnsOne, FailsOn, LogTakes, LogRefuses, bare};
 
 use crate::counts::{lower, raise};
-use crate::labels::{Label, Which};
+use crate::labels::{Label, Selection};
 use crate::outcome::{LogFault, SolveFault};
 use crate::proof_log::ProofLog;
 use crate::seeking::{Stop, advance, assert_lesson, begin, lesson_of, prefer};
 use cdcl_trail::Trail;
 use clause_arena::{Arena, ClauseRef};
+use clause_learning::{Lesson, Marks};
 use clause_meaning::literal_of;
-use conflict_analysis::{Lesson, Marks};
 use cq_terms::{Longs, NoMemory};
 use std::alloc::Global;
 use std::marker::Model;
@@ -43,9 +44,9 @@ pub struct Store {
 }
 
 impl Model for Store {
-    ghost use Rattle.cdcl_core.specs.Store.{Parts};
+    ghost use Rattle.cdcl_core.specs.Store.{StoreState};
 
-    ghost Value = { Parts };
+    ghost Value = { StoreState };
 
     ghost use Rattle.cdcl_core.specs.Shown.{parts_of, StoreIsKept};
 
@@ -126,7 +127,7 @@ impl Store {
     }
 
     /// Drops clauses.
-    pub fn drop_clauses(&mut self, which: Which)
+    pub fn drop_clauses(&mut self, which: Selection)
         ensures exact { DropsClauses self.old self.new which }
     {
         drop_where(
@@ -160,7 +161,7 @@ impl Store {
         begin(&mut self.trail, &self.arena, scope)
     }
 
-    /// Goes on with a search until it ends or has a conflict above the assumptions.
+    /// Goes on with a search until it ends or a clause is falsified above the assumptions.
     pub fn advance(&mut self, assume: &[u32], assumed: u32) -> Stop
         requires seeks { Seeks assume.now self.old.trail self.old.arena assumed }
 
@@ -178,10 +179,14 @@ impl Store {
         self.trail.level()
     }
 
-    /// Learns from a conflict: the clause goes to the log first, and then it is live and the search goes back.
-    pub fn learn<L: ProofLog>(&mut self, conflict: ClauseRef, log: &mut L) -> Result<(), SolveFault>
+    /// Learns from a falsified clause: the clause goes to the log first, and then it is live and the search goes back.
+    pub fn learn<L: ProofLog>(
+        &mut self,
+        falsified: ClauseRef,
+        log: &mut L,
+    ) -> Result<(), SolveFault>
         requires searching { IsSearching self.old.trail self.old.arena }
-        requires conflict { IsConflict self.old.trail self.old.arena conflict }
+        requires falsified { IsFalsified self.old.trail self.old.arena falsified }
         requires guessed { 0 < self.old.trail.level }
         requires numbers { self.old.next < 2 ^ 64 - 1 }
         requires whole { IsWhole (L.content log.old) }
@@ -198,7 +203,7 @@ impl Store {
             &mut self.arena,
             &mut self.labels,
             &self.trail,
-            conflict,
+            falsified,
             &mut self.marks,
         )?;
         match write_learned(log, self.next, lesson.literals.as_slice()) {
@@ -217,16 +222,16 @@ impl Store {
     }
 }
 
-/// What a conflict teaches, with room for its clause.
+/// What a falsified clause teaches, with room for its clause.
 fn prepare(
     arena: &mut Arena,
     labels: &mut Vec<Label>,
     trail: &Trail,
-    conflict: ClauseRef,
+    falsified: ClauseRef,
     marks: &mut Marks,
 ) -> Result<Lesson, NoMemory>
     requires searching { IsSearching trail.now arena.old }
-    requires conflict { IsConflict trail.now arena.old conflict }
+    requires falsified { IsFalsified trail.now arena.old falsified }
     requires guessed { 0 < trail.now.level }
     requires marks { marks.old ≡ trail.now.variables }
 
@@ -240,7 +245,7 @@ fn prepare(
     ensures same_labels { labels.new.items ≡ labels.old.items }
     ensures marks { marks.new ≡ marks.old }
 {
-    let lesson = lesson_of(*labels.allocator(), trail, arena, conflict, marks)?;
+    let lesson = lesson_of(*labels.allocator(), trail, arena, falsified, marks)?;
     arena.reserve(lesson.literals.len())?;
     labels.reserve(1)?;
     Ok(lesson)
@@ -375,7 +380,7 @@ fn put(
 }
 
 /// Drops the clauses that `which` takes, and marks their labels.
-fn drop_where(arena: &mut Arena, trail: &mut Trail, labels: &mut [Label], which: Which)
+fn drop_where(arena: &mut Arena, trail: &mut Trail, labels: &mut [Label], which: Selection)
     requires same_variables { trail.old.variables ≡ arena.old.variables }
     requires parallel { length labels.old ≡ length arena.old.live }
     requires stay { All (λ label. label.goes ≡ false) labels.old }
@@ -410,7 +415,7 @@ fn drop_if(
     trail: &mut Trail,
     number: Option<u64>,
     clause: ClauseRef,
-    which: Which,
+    which: Selection,
 ) -> bool
     requires same_variables { trail.old.variables ≡ arena.old.variables }
     requires live { IsLive arena.old clause.place }

@@ -13,7 +13,7 @@ use std::process::Abort;
 use std::test::Fail;
 
 /// Adds a clause of two literals over two variables.
-#[tactic(auto, using(crate::proofs::TestLemmas::distinct_two, crate::proofs::TestLemmas::below_two))]
+#[tactic(auto, using(clause_meaning::proofs::FewLiterals::distinct_two, clause_meaning::proofs::FewLiterals::below_two))]
 fn put(rt: &impl Abort, solver: &mut Solver, a: u32, b: u32) -> Result<(), Fail>
     requires { IsFresh 2 solver.old }
     ensures { OnOk result (IsFresh 2 solver.new) }
@@ -76,7 +76,7 @@ fn search_both(
 }
 
 /// Searches with one assumption, and without budget.
-#[tactic(auto, using(crate::proofs::TestLemmas::below_one))]
+#[tactic(auto, using(clause_meaning::proofs::FewLiterals::below_one))]
 fn search_with(
     rt: &impl Abort,
     solver: &mut Solver,
@@ -205,7 +205,7 @@ fn add_to_four(solver: &mut Solver, clause: &[u32]) -> Result<(), NoMemory>
 }
 
 /// Adds a clause of three literals over four variables.
-#[tactic(auto, using(crate::proofs::TestLemmas::distinct_three, crate::proofs::TestLemmas::below_three))]
+#[tactic(auto, using(clause_meaning::proofs::FewLiterals::distinct_three, clause_meaning::proofs::FewLiterals::below_three))]
 fn put_three(rt: &impl Abort, solver: &mut Solver, a: u32, b: u32, c: u32) -> Result<(), Fail>
     requires { IsFresh 4 solver.old }
     ensures { OnOk result (IsFresh 4 solver.new) }
@@ -221,7 +221,7 @@ fn put_three(rt: &impl Abort, solver: &mut Solver, a: u32, b: u32, c: u32) -> Re
 }
 
 /// Adds a clause of two literals over four variables.
-#[tactic(auto, using(crate::proofs::TestLemmas::distinct_two, crate::proofs::TestLemmas::below_two))]
+#[tactic(auto, using(clause_meaning::proofs::FewLiterals::distinct_two, clause_meaning::proofs::FewLiterals::below_two))]
 fn put_pair(rt: &impl Abort, solver: &mut Solver, a: u32, b: u32) -> Result<(), Fail>
     requires { IsFresh 4 solver.old }
     ensures { OnOk result (IsFresh 4 solver.new) }
@@ -329,7 +329,7 @@ fn put_some(
 }
 
 /// Searches with an assumption, and looks at all assignments.
-#[tactic(auto, using(crate::proofs::TestLemmas::below_one))]
+#[tactic(auto, using(clause_meaning::proofs::FewLiterals::below_one))]
 fn compare(
     rt: &impl Abort,
     alloc: Global,
@@ -447,7 +447,7 @@ fn add_parted(solver: &mut Solver, clause: &[u32]) -> Result<(), NoMemory>
 }
 
 /// Adds a clause of two literals over the first two of four variables.
-#[tactic(auto, using(crate::proofs::TestLemmas::distinct_two, crate::proofs::TestLemmas::below_two, crate::proofs::TestLemmas::first_sided))]
+#[tactic(auto, using(clause_meaning::proofs::FewLiterals::distinct_two, clause_meaning::proofs::FewLiterals::below_two, crate::proofs::TestLemmas::first_sided))]
 fn put_first(rt: &impl Abort, solver: &mut Solver, a: u32, b: u32) -> Result<(), Fail>
     requires { IsParted solver.old }
     ensures { OnOk result (IsParted solver.new) }
@@ -460,7 +460,7 @@ fn put_first(rt: &impl Abort, solver: &mut Solver, a: u32, b: u32) -> Result<(),
 }
 
 /// Adds a clause of two literals over the other two.
-#[tactic(auto, using(crate::proofs::TestLemmas::distinct_two, crate::proofs::TestLemmas::below_two, crate::proofs::TestLemmas::last_sided))]
+#[tactic(auto, using(clause_meaning::proofs::FewLiterals::distinct_two, clause_meaning::proofs::FewLiterals::below_two, crate::proofs::TestLemmas::last_sided))]
 fn put_last(rt: &impl Abort, solver: &mut Solver, a: u32, b: u32) -> Result<(), Fail>
     requires { IsParted solver.old }
     ensures { OnOk result (IsParted solver.new) }

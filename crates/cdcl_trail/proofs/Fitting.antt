@@ -7,23 +7,23 @@ use Rattle.clause_meaning.specs.Literals.{opposite_of, variable_of}
 use Rattle.clause_meaning.proofs.LiteralLaws.{opposite_of-opposite_of, opposite_of-ne, variable_of-opposite_of}
 use Rattle.clause_arena.specs.declared.clause_ref.ClauseRef.{ClauseRef}
 use Rattle.clause_arena.specs.State.{State as Arena}
-use Rattle.cdcl_trail.specs.declared.entry.Entry.{Entry}
+use Rattle.cdcl_trail.specs.declared.trail_entry.TrailEntry.{TrailEntry}
 use Rattle.cdcl_trail.specs.Assigned.{IsTrueOn, IsUnassigned}
 use Rattle.cdcl_trail.specs.State.{State, with_entry}
 use Rattle.cdcl_trail.specs.Levels.{CutsTo}
 use Rattle.cdcl_trail.specs.Fits.{IsReason, Fits}
 use Rattle.cdcl_trail.proofs.Entries.{IsTrueOn-push_cases, IsTrueOn-append}
 
-reason_at : (arena : Arena) (ys zs : List Entry) (x y : Entry) → ys ≡ zs → x ≡ y → IsReason arena ys x.literal x.reason → IsReason arena zs y.literal y.reason
+reason_at : (arena : Arena) (ys zs : List TrailEntry) (x y : TrailEntry) → ys ≡ zs → x ≡ y → IsReason arena ys x.literal x.reason → IsReason arena zs y.literal y.reason
 reason_at arena ys zs x y e d h =
-    subst (λ (w : List Entry). IsReason arena w y.literal y.reason) e (subst (λ (w : Entry). IsReason arena ys w.literal w.reason) d h)
+    subst (λ (w : List TrailEntry). IsReason arena w y.literal y.reason) e (subst (λ (w : TrailEntry). IsReason arena ys w.literal w.reason) d h)
 
 -- one more entry, whose variable is unassigned, at the level of all that is pending
 pub Fits-entry : (trail : State) (arena : Arena) (level l : ℕ) (reason : Option ClauseRef) → Fits trail arena → IsReason arena trail.entries l reason
-    → IsUnassigned trail.entries (variable_of l) → length trail.entries + 1 ≤ trail.variables → All (λ (e : Entry). e.level ≡ level) (drop trail.settled trail.entries)
+    → IsUnassigned trail.entries (variable_of l) → length trail.entries + 1 ≤ trail.variables → All (λ (e : TrailEntry). e.level ≡ level) (drop trail.settled trail.entries)
     → Fits (with_entry trail level l reason) arena
 Fits-entry trail arena level l reason fits forced unassigned few pending =
-    let entry : Entry = record { literal = l; level = level; reason = reason } in
+    let entry : TrailEntry = record { literal = l; level = level; reason = reason } in
     let free : IsTrueOn trail.entries (opposite_of l) → ⊥ = unassigned (opposite_of l) (variable_of-opposite_of l) in
     record {
       same_variables = fits.same_variables;
@@ -46,8 +46,8 @@ Fits-entry trail arena level l reason fits forced unassigned few pending =
       ];
       few = omega (arith, length_push trail.entries entry);
       settled = omega (arith, fits.settled, length_push trail.entries entry);
-      pending = subst (All (λ (e : Entry). e.level ≡ level)) (sym (drop-append-le trail.settled trail.entries (entry ∷ []) fits.settled))
-          (All-push (λ (e : Entry). e.level ≡ level) (drop trail.settled trail.entries) entry pending refl);
+      pending = subst (All (λ (e : TrailEntry). e.level ≡ level)) (sym (drop-append-le trail.settled trail.entries (entry ∷ []) fits.settled))
+          (All-push (λ (e : TrailEntry). e.level ≡ level) (drop trail.settled trail.entries) entry pending refl);
     }
 
 -- the fit doesn't speak of the focus and the counts
@@ -62,9 +62,9 @@ Fits-choices trail arena focus counts fits = record {
 }
 
 -- where all is settled, nothing is pending at whatever level
-pub none_pending : (trail : State) (level : ℕ) → trail.settled ≡ length trail.entries → All (λ (e : Entry). e.level ≡ level) (drop trail.settled trail.entries)
+pub none_pending : (trail : State) (level : ℕ) → trail.settled ≡ length trail.entries → All (λ (e : TrailEntry). e.level ≡ level) (drop trail.settled trail.entries)
 none_pending trail level all =
-    subst (All (λ (e : Entry). e.level ≡ level)) (sym (drop_all trail.settled trail.entries (omega arith))) (All-nil (λ (e : Entry). e.level ≡ level))
+    subst (All (λ (e : TrailEntry). e.level ≡ level)) (sym (drop_all trail.settled trail.entries (omega arith))) (All-nil (λ (e : TrailEntry). e.level ≡ level))
 
 -- a trail without entries fits
 pub Fits-empty : (trail : State) (arena : Arena) → arena.variables ≡ trail.variables → trail.entries ≡ [] → trail.settled ≡ 0 → Fits trail arena
@@ -85,12 +85,12 @@ Fits-cut old new arena target fits cut below =
     let gone = cut.cut.0 in
     let is : old.entries ≡ new.entries ++ gone = cut.cut.1 in
     let long : length old.entries ≡ length new.entries + length gone = ap length is ∙ length-append new.entries gone in
-    let back : (l : ℕ) → IsTrueOn new.entries l → IsTrueOn old.entries l = λ l p. subst (λ (es : List Entry). IsTrueOn es l) (sym is) (IsTrueOn-append new.entries gone l p) in
+    let back : (l : ℕ) → IsTrueOn new.entries l → IsTrueOn old.entries l = λ l p. subst (λ (es : List TrailEntry). IsTrueOn es l) (sym is) (IsTrueOn-append new.entries gone l p) in
     record {
       same_variables = fits.same_variables ∙ sym cut.variables;
       consistent = λ l p q. fits.consistent l (back l p) (back (opposite_of l) q);
       reasons = λ i d h. reason_at arena (take i old.entries) (take i new.entries) (get_or old.entries i d) (get_or new.entries i d)
-          (ap (take i) is ∙ take-append-le i new.entries gone (omega arith)) (ap (λ (es : List Entry). get_or es i d) is ∙ get_or_append_left new.entries gone d i h)
+          (ap (take i) is ∙ take-append-le i new.entries gone (omega arith)) (ap (λ (es : List TrailEntry). get_or es i d) is ∙ get_or_append_left new.entries gone d i h)
           (fits.reasons i d (omega (arith, long, h)));
       few = omega (arith, fits.few, cut.variables, long);
       settled = omega (arith, cut.settled);
@@ -100,7 +100,7 @@ Fits-cut old new arena target fits cut below =
       ];
     }
   where
-    pending_at : (a b : State) (arena : Arena) (t : ℕ) → Fits a arena → CutsTo a b t → t ≤ a.level → (s k : ℕ) (d : Entry) → b.settled ≡ s → s ≡ a.settled
+    pending_at : (a b : State) (arena : Arena) (t : ℕ) → Fits a arena → CutsTo a b t → t ≤ a.level → (s k : ℕ) (d : TrailEntry) → b.settled ≡ s → s ≡ a.settled
         → k < length (drop b.settled b.entries) → (get_or (drop b.settled b.entries) k d).level ≡ b.level
     pending_at a b arena t fits cut below s k d same is p =
         let len : length (drop b.settled b.entries) ≡ length b.entries - b.settled = length-drop b.settled b.entries in
@@ -110,9 +110,9 @@ Fits-cut old new arena target fits cut below =
         let there : get_or (drop a.settled a.entries) k d ≡ get_or b.entries (b.settled + k) d =
         get_or-drop a.settled a.entries k d
         ∙ (ap (λ (n : ℕ). get_or a.entries (n + k) d) (sym is ∙ sym same)
-        ∙ (ap (λ (es : List Entry). get_or es (b.settled + k) d) cut.cut.1 ∙ get_or_append_left b.entries cut.cut.0 d (b.settled + k) inside)) in
+        ∙ (ap (λ (es : List TrailEntry). get_or es (b.settled + k) d) cut.cut.1 ∙ get_or_append_left b.entries cut.cut.0 d (b.settled + k) inside)) in
         let old_len : length (drop a.settled a.entries) ≡ length a.entries - a.settled = length-drop a.settled a.entries in
         let level : (get_or (drop a.settled a.entries) k d).level ≡ a.level = fits.pending k d (omega (arith, old_len, long, inside, same, is)) in
         let up : (get_or b.entries (b.settled + k) d).level ≤ t = cut.cut.2 (b.settled + k) d inside in
-        let moved = ap (λ (e : Entry). e.level) there in
-        ap (λ (e : Entry). e.level) at ∙ omega (arith, level, up, moved, below, cut.level)
+        let moved = ap (λ (e : TrailEntry). e.level) there in
+        ap (λ (e : TrailEntry). e.level) at ∙ omega (arith, level, up, moved, below, cut.level)

@@ -3,7 +3,6 @@ pub mod TableLemmas
 pub mod ValueLemmas
 pub mod LevelLemmas
 pub mod Fitting
-pub mod Freedom
 pub mod LastValues
 pub mod Passes
 pub mod Picking

@@ -4,12 +4,13 @@ use Rattle.std.proofs.lemmas.Bool.{cases_eq}
 use Rattle.std.proofs.lemmas.List.{append_assoc, append-nil, drop_all}
 use Rattle.std.proofs.lemmas.List.Elements.{All-push, All-append, All-nil, All-contains}
 use Rattle.clause_arena.specs.declared.clause_ref.ClauseRef.{ClauseRef}
-use Rattle.clause_arena.specs.State.{State as Arena, Held, Names, IsLive}
+use Rattle.clause_arena.specs.State.{State as Arena, HeldClause, Names, IsLive}
 use Rattle.clause_arena.specs.Walk.{IsFirstFrom}
-use Rattle.cdcl_trail.specs.declared.entry.Entry.{Entry}
+use Rattle.clause_meaning.specs.Resting.{Rests}
+use Rattle.cdcl_trail.specs.declared.trail_entry.TrailEntry.{TrailEntry}
 use Rattle.cdcl_trail.specs.Assigned.{IsTrueOn}
 use Rattle.cdcl_trail.specs.State.{State, with_entry, with_last, with_lasts}
-use Rattle.cdcl_trail.specs.Fits.{Fits, Rests, IsComplete, Grows, IsBefore, RestBefore}
+use Rattle.cdcl_trail.specs.Fits.{Fits, IsComplete, Grows, IsBefore, RestBefore}
 
 -- how far a walk is from its end: a reference is below 2 ^ 64
 abbrev pub left_of : Option ClauseRef → ℕ
@@ -26,7 +27,7 @@ Grows-same trail = record {
 }
 
 -- the last values after two lists of entries
-with_lasts-append : (lasts : List Bool) (xs ys : List Entry) → with_lasts lasts (xs ++ ys) ≡ with_lasts (with_lasts lasts xs) ys
+with_lasts-append : (lasts : List Bool) (xs ys : List TrailEntry) → with_lasts lasts (xs ++ ys) ≡ with_lasts (with_lasts lasts xs) ys
 with_lasts-append lasts [] ys = refl
 with_lasts-append lasts (x ∷ xs) ys = with_lasts-append (with_last lasts x.literal) xs ys
 
@@ -38,7 +39,7 @@ Grows-trans a b c g h = record {
   counts = h.counts ∙ g.counts;
   added = (
     g.added.0 ++ h.added.0,
-    h.added.1 ∙ (ap (λ (es : List Entry). es ++ h.added.0) g.added.1 ∙ append_assoc a.entries g.added.0 h.added.0),
+    h.added.1 ∙ (ap (λ (es : List TrailEntry). es ++ h.added.0) g.added.1 ∙ append_assoc a.entries g.added.0 h.added.0),
     All-append (λ entry. entry.level ≡ a.level) g.added.0 h.added.0 g.added.2 (subst (λ (n : ℕ). All (λ entry. entry.level ≡ n) h.added.0) g.level h.added.2),
     All-append (λ entry. IsSome entry.reason) g.added.0 h.added.0 g.added.3 h.added.3,
     h.added.4 ∙ (ap (λ (lasts : List Bool). with_lasts lasts h.added.0) g.added.4 ∙ sym (with_lasts-append a.lasts g.added.0 h.added.0)),
@@ -47,7 +48,7 @@ Grows-trans a b c g h = record {
 
 pub Grows-entry : (trail : State) (l : ℕ) (r : ClauseRef) → Grows trail (with_entry trail trail.level l (Some r))
 Grows-entry trail l r =
-    let entry : Entry = record { literal = l; level = trail.level; reason = Some r } in
+    let entry : TrailEntry = record { literal = l; level = trail.level; reason = Some r } in
     record {
       variables = refl;
       level = refl;
@@ -74,7 +75,7 @@ before_first : (trail : State) (arena : Arena) (at : Option ClauseRef) → IsFir
 before_first trail arena None first held m before two = absurd (omega (arith, All-contains (λ h. h.reference < 0) arena.live held first m))
 before_first trail arena (Some r) first held m before two = absurd (omega (arith, All-contains (λ h. h.reference < r.place → h.reference < 0) arena.live held first.3 m before))
 
-live_first : (arena : Arena) (low : ℕ) (at : Option ClauseRef) → IsFirstFrom arena.live low at → IfSome at (λ (r : ClauseRef). IsLive arena r.place)
+pub live_first : (arena : Arena) (low : ℕ) (at : Option ClauseRef) → IsFirstFrom arena.live low at → IfSome at (λ (r : ClauseRef). IsLive arena r.place)
 live_first arena low None first = tt
 live_first arena low (Some r) first = first.2
 
@@ -99,7 +100,7 @@ PassHolds-grows old trail new arena grows r at h first grown fits more =
       live = live_first arena (r.place + 1) at first;
     }
 
-behind : (arena : Arena) (r : ClauseRef) (at : Option ClauseRef) (held : Held) → IsFirstFrom arena.live (r.place + 1) at → Contains arena.live held → IsBefore held.reference at → held.reference < r.place + 1
+pub behind : (arena : Arena) (r : ClauseRef) (at : Option ClauseRef) (held : HeldClause) → IsFirstFrom arena.live (r.place + 1) at → Contains arena.live held → IsBefore held.reference at → held.reference < r.place + 1
 behind arena r None held first m before = All-contains (λ h. h.reference < r.place + 1) arena.live held first m
 behind arena r (Some s) held first m before = All-contains (λ h. h.reference < s.place → h.reference < r.place + 1) arena.live held first.3 m before
 

@@ -8,7 +8,7 @@ use Rattle.std.proofs.lemmas.Map.Made.{IsDistinct-from_AllPairs}
 use Rattle.std.proofs.lemmas.Map.Steps.{length-le_from_distinct_below}
 use Rattle.std.proofs.lemmas.Map.Views.{Contains-from_any}
 use Rattle.clause_meaning.proofs.Members.{Contains-take, Contains-take_all, Contains-take_more_cases, Contains-take_more_left, Contains-take_more_at}
-use Rattle.cdcl_trail.specs.declared.entry.Entry.{Entry}
+use Rattle.cdcl_trail.specs.declared.trail_entry.TrailEntry.{TrailEntry}
 use Rattle.cdcl_trail.specs.Choices.{DifferInPairs, IsOpen, AreAssigned, IsPick, Improves}
 use Rattle.cdcl_trail.proofs.Entries.{assigned_or_not}
 
@@ -48,7 +48,7 @@ IsPick-all Open variables i None past pick = λ v m free. pick v (Contains-take_
 IsPick-all Open variables i (Some w) past pick = (Contains-take variables i w pick.0, pick.1)
 
 -- where nothing is chosen, the variables with a count are assigned
-pub assigned_where_none : (entries : List Entry) (counts variables : List ℕ) (r : Option ℕ) → IsPick (IsOpen entries counts) variables r
+pub assigned_where_none : (entries : List TrailEntry) (counts variables : List ℕ) (r : Option ℕ) → IsPick (IsOpen entries counts) variables r
     → IfNone r (AreAssigned entries counts variables)
 assigned_where_none entries counts variables None pick =
     λ v m some. elim (assigned_or_not entries v) [ inl held ↦ held | inr free ↦ absurd (pick v m (free, some)) ]

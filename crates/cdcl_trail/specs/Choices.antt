@@ -1,6 +1,6 @@
 -- What decides which variable is guessed next: the focus, and for each variable its count and its last value.
 use Rattle.std.specs.Prelude.{◌≡◌, ◌≢◌, ◌⊎◌, ℕ, List, [], Bool, false, Option, Some, None, Contains, AllPairs, slice_index, slice_set, replicate}
-use Rattle.cdcl_trail.specs.declared.entry.Entry.{Entry}
+use Rattle.cdcl_trail.specs.declared.trail_entry.TrailEntry.{TrailEntry}
 use Rattle.cdcl_trail.specs.Assigned.{IsUnassigned}
 use Rattle.cdcl_trail.specs.Values.{IsAssigned}
 
@@ -24,11 +24,11 @@ abbrev pub DifferInPairs : List ℕ → Type 0
 DifferInPairs variables = AllPairs (λ v w. v ≢ w) variables
 
 -- the variable is unassigned, and its count isn't 0
-abbrev pub IsOpen : List Entry → List ℕ → ℕ → Type 0
+abbrev pub IsOpen : List TrailEntry → List ℕ → ℕ → Type 0
 IsOpen entries counts v = IsUnassigned entries v × (slice_index counts v ≢ 0)
 
 -- each of the variables whose count isn't 0 is assigned
-abbrev pub AreAssigned : List Entry → List ℕ → List ℕ → Type 0
+abbrev pub AreAssigned : List TrailEntry → List ℕ → List ℕ → Type 0
 AreAssigned entries counts variables = (v : ℕ) → Contains variables v → slice_index counts v ≢ 0 → IsAssigned entries v
 
 -- one of the variables that is open, none exactly where there is none

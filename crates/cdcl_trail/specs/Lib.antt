@@ -7,4 +7,4 @@ pub mod State
 pub mod Shown
 pub mod Levels
 pub mod Fits
-pub mod Looks
+pub mod Passes

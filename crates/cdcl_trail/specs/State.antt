@@ -3,12 +3,12 @@
 use Rattle.std.specs.Prelude.{◌≡◌, ℕ, ◌++◌, List, [], ◌∷◌, Bool, false, Option, Contains, slice_index, slice_index_or, slice_set, replicate}
 use Rattle.clause_meaning.specs.Literals.{variable_of, is_present}
 use Rattle.clause_arena.specs.declared.clause_ref.ClauseRef.{ClauseRef}
-use Rattle.cdcl_trail.specs.declared.entry.Entry.{Entry}
+use Rattle.cdcl_trail.specs.declared.trail_entry.TrailEntry.{TrailEntry}
 
 -- the entries from the place `settled` on are pending; the counts and the last values are lists by variable
 pub record State : Type 0 where
   pub variables : ℕ
-  pub entries : List Entry
+  pub entries : List TrailEntry
   pub level : ℕ
   pub settled : ℕ
   pub focus : List ℕ
@@ -40,13 +40,13 @@ abbrev pub with_last : List Bool → ℕ → List Bool
 with_last lasts literal = slice_set lasts (variable_of literal) (is_present literal)
 
 -- the last values once all these are assigned, in order
-abbrev pub with_lasts : List Bool → List Entry → List Bool
+abbrev pub with_lasts : List Bool → List TrailEntry → List Bool
 with_lasts lasts [] = lasts
 with_lasts lasts (e ∷ es) = with_lasts (with_last lasts e.literal) es
 
 -- the last value of each assigned variable is the one that it has
-abbrev pub AreLast : List Entry → List Bool → Type 0
-AreLast entries lasts = (entry : Entry) → Contains entries entry → slice_index_or lasts (variable_of entry.literal) false ≡ is_present entry.literal
+abbrev pub AreLast : List TrailEntry → List Bool → Type 0
+AreLast entries lasts = (entry : TrailEntry) → Contains entries entry → slice_index_or lasts (variable_of entry.literal) false ≡ is_present entry.literal
 
 -- one more entry, pending, at a level that is the current one from then on
 abbrev pub with_entry : State → ℕ → ℕ → Option ClauseRef → State

@@ -4,9 +4,9 @@ ghost use Rattle.std.specs.Prelude.{◌≡◌, ◌<◌, ◌≤◌, ◌++◌, ◌
 ghost use Rattle.clause_meaning.specs.Literals.{variable_of};
 ghost use Rattle.cdcl_trail.specs.Assigned.{IsUnassigned, IsEntryOf};
 ghost use Rattle.cdcl_trail.specs.Levels.{last_level, RiseFrom};
-ghost use Rattle.cdcl_trail.specs.declared.entry.Entry.{Entry};
+ghost use Rattle.cdcl_trail.specs.declared.trail_entry.TrailEntry.{TrailEntry};
 
-use crate::entry::Entry;
+use crate::trail_entry::TrailEntry;
 use clause_meaning::variable_of;
 use cq_terms::NoMemory;
 use std::alloc::Global;
@@ -16,9 +16,9 @@ use std::marker::Model;
 #[derive(Drop)]
 pub struct Assignment {
     variables: u32,
-    entries: Vec<Entry>,
+    entries: Vec<TrailEntry>,
     literals: Vec<u32>,
-    table: Vec<Option<Entry>>,
+    table: Vec<Option<TrailEntry>>,
 }
 
 impl Model for Assignment {
@@ -51,7 +51,7 @@ impl Assignment {
     }
 
     /// The entry of a variable, where it is assigned.
-    pub fn entry(&self, variable: u32) -> Option<Entry>
+    pub fn entry(&self, variable: u32) -> Option<TrailEntry>
         requires { variable < self.now.variables }
         ensures { IsEntryOf self.now.entries variable result }
     {
@@ -75,7 +75,7 @@ impl Assignment {
     }
 
     /// Assigns one more literal. It takes no memory.
-    pub fn put(&mut self, entry: Entry)
+    pub fn put(&mut self, entry: TrailEntry)
         requires in_range { variable_of entry.literal < self.old.variables }
         requires unassigned { IsUnassigned self.old.entries (variable_of entry.literal) }
         ensures exact { self.new ≡ record self.old { entries = self.old.entries ++ entry ∷ [] } }
@@ -88,7 +88,7 @@ impl Assignment {
     }
 
     /// Takes the newest literal away.
-    pub fn take_last(&mut self) -> Option<Entry>
+    pub fn take_last(&mut self) -> Option<TrailEntry>
         ensures variables { self.new.variables ≡ self.old.variables }
         ensures some { IfSome result (λ entry. self.old.entries ≡ self.new.entries ++ entry ∷ []) }
         ensures none { IfNone result ((self.old.entries ≡ []) × (self.new.entries ≡ [])) }
@@ -119,7 +119,7 @@ pub fn cut(assigned: &mut Assignment, level: u32)
     requires rise { RiseFrom 0 assigned.old.entries }
     requires reached { level ≤ last_level 0 assigned.old.entries }
     ensures variables { assigned.new.variables ≡ assigned.old.variables }
-    ensures cut { (gone : List Entry) × (assigned.old.entries ≡ assigned.new.entries ++ gone) × All (λ e. level < e.level) gone }
+    ensures cut { (gone : List TrailEntry) × (assigned.old.entries ≡ assigned.new.entries ++ gone) × All (λ e. level < e.level) gone }
     ensures last { last_level 0 assigned.new.entries ≡ level }
     ensures rise { RiseFrom 0 assigned.new.entries }
 {

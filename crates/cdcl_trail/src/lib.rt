@@ -3,12 +3,12 @@
 
 mod assignment;
 mod branching;
-mod entry;
 mod looks;
 mod propagate;
 #[cfg(test)]
 mod tests;
 mod trail;
+mod trail_entry;
 
-pub use entry::Entry;
 pub use trail::Trail;
+pub use trail_entry::TrailEntry;

@@ -3,9 +3,9 @@
 ghost use Rattle.std.specs.Prelude.{◌≡◌, IfSome, IfNone, length};
 ghost use Rattle.clause_arena.specs.State.{IsLive};
 
-use crate::looks::Look;
 use crate::trail::Trail;
 use clause_arena::{Arena, ClauseRef};
+use clause_meaning::Finding;
 
 /// What a visit of one clause did.
 #[derive(Clone, Copy)]
@@ -30,8 +30,8 @@ pub enum Pass {
 }
 
 impl Trail {
-    ghost use Rattle.cdcl_trail.specs.Fits.{Fits, Grows, IsComplete, IsConflict};
-    ghost use Rattle.cdcl_trail.specs.Looks.{Visited, Found};
+    ghost use Rattle.cdcl_trail.specs.Fits.{Fits, Grows, IsComplete, IsFalsified};
+    ghost use Rattle.cdcl_trail.specs.Passes.{Visited, Passed};
 
     /// Looks at a live clause, and assigns what it forces.
     fn visit_clause(&mut self, arena: &Arena, clause: ClauseRef) -> Visit
@@ -47,12 +47,12 @@ impl Trail {
             return Visit::Rests;
         }
         match self.look(literals) {
-            Look::IsFalse => Visit::Clashes,
-            Look::Forces(literal) => {
+            Finding::IsFalse => Visit::Clashes,
+            Finding::Forces(literal) => {
                 self.force(literal, clause);
                 Visit::Grows
             }
-            Look::Rests => Visit::Rests,
+            Finding::Rests => Visit::Rests,
         }
     }
 
@@ -60,7 +60,7 @@ impl Trail {
     fn pass_over(&mut self, arena: &Arena) -> Pass
         requires { Fits self.old arena.now }
 
-        ensures found { Found self.old self.new arena.now result }
+        ensures passed { Passed self.old self.new arena.now result }
         ensures grows { Grows self.old self.new }
         ensures fits { Fits self.new arena.now }
     {
@@ -82,7 +82,7 @@ impl Trail {
     pub fn propagate(&mut self, arena: &Arena) -> Option<ClauseRef>
         requires { Fits self.old arena.now }
 
-        ensures conflict { IfSome result (IsConflict self.new arena.now) }
+        ensures falsified { IfSome result (IsFalsified self.new arena.now) }
         ensures complete { IfNone result (IsComplete self.new arena.now) }
         ensures settled { IfNone result (self.new.settled ≡ length self.new.entries) }
 

@@ -13,7 +13,7 @@ use std::process::Abort;
 use std::test::Fail;
 
 /// Adds a clause of two literals.
-#[tactic(auto, using(crate::proofs::TestLemmas::distinct_two, crate::proofs::TestLemmas::below_two))]
+#[tactic(auto, using(clause_meaning::proofs::FewLiterals::distinct_two, clause_meaning::proofs::FewLiterals::below_two))]
 fn put(rt: &impl Abort, arena: &mut Arena, a: u32, b: u32) -> Result<ClauseRef, Fail>
     ensures { OnOk result (arena.new.variables ≡ arena.old.variables) }
 {
@@ -141,7 +141,7 @@ fn a_clause_forces_a_literal(rt: HostRuntime) -> Result<(), Fail> {
 
 /// Variable 0 present makes variable 1 both.
 #[test]
-fn a_conflict_is_named(rt: HostRuntime) -> Result<(), Fail> {
+fn a_falsified_clause_is_named(rt: HostRuntime) -> Result<(), Fail> {
     let mut arena = Arena::new(rt.alloc(), 2)?;
     put(&rt, &mut arena, 1, 2)?;
     let second = put(&rt, &mut arena, 1, 3)?;

@@ -8,16 +8,16 @@ ghost use Rattle.cdcl_trail.specs.State.{empty_trail, with_entry, with_count, co
 
 use crate::assignment::{Assignment, clear, cut};
 use crate::branching::Branching;
-use crate::entry::Entry;
-use crate::looks::{Look, look_at};
+use crate::looks::look_at;
+use crate::trail_entry::TrailEntry;
 use clause_arena::ClauseRef;
-use clause_meaning::variable_of;
+use clause_meaning::{Finding, variable_of};
 use cq_terms::NoMemory;
 use std::alloc::Global;
 use std::marker::Model;
 
 /// The assigned literals of a solver, oldest first, each with its level and its reason (Marques-Silva and Sakallah 1999). A
-/// literal is pending from the call that assigns it until a `propagate` finds no conflict, or until it is unassigned.
+/// literal is pending from the call that assigns it until a `propagate` finds no falsified clause, or until it is unassigned.
 #[derive(Drop)]
 pub struct Trail {
     assigned: Assignment,
@@ -39,8 +39,8 @@ impl Model for Trail {
 }
 
 impl Trail {
+    ghost use Rattle.clause_meaning.specs.Resting.{Says};
     ghost use Rattle.cdcl_trail.specs.Fits.{Fits, IsReason};
-    ghost use Rattle.cdcl_trail.specs.Looks.{Says};
     ghost use Rattle.cdcl_trail.specs.Levels.{CutsTo, last_level, RiseFrom};
     ghost use Rattle.cdcl_trail.specs.Values.{IsValue, IsAssigned, IsReasonOf, HasLevel};
     ghost use Rattle.cdcl_trail.specs.Table.{AreDistinct};
@@ -161,7 +161,7 @@ impl Trail {
         ensures exact { self.new ≡ with_entry self.old level literal reason }
         ensures few { length self.new.entries ≤ self.new.variables }
     {
-        let entry = Entry {
+        let entry = TrailEntry {
             literal,
             level,
             reason,
@@ -263,7 +263,7 @@ impl Trail {
     }
 
     /// Looks at one clause.
-    pub(crate) fn look(&self, clause: &[u32]) -> Look
+    pub(crate) fn look(&self, clause: &[u32]) -> Finding
         requires { AreBelow self.now.variables clause.now }
         ensures { Says (IsTrueOn self.now.entries) clause.now result }
     {

@@ -3,11 +3,11 @@ use Rattle.std.proofs.Common.{◌≡◌, ◌≢◌, ℕ, zero, suc, ◌<◌, ◌
 use Rattle.std.proofs.lemmas.Bool.{ne_eqb}
 use Rattle.std.specs.List.{filter}
 use Rattle.clause_meaning.proofs.Members.{Contains-head, Contains-tail}
-use Rattle.clause_arena.specs.State.{Held, renamed, without}
+use Rattle.clause_arena.specs.State.{HeldClause, renamed, without}
 use Rattle.clause_arena.specs.Slots.{held_at, held_from, is_full, full_in, full_count}
 use Rattle.clause_arena.proofs.SlotLemmas.{held_above}
 
-held_at_append : (place : ℕ) (xs : List ℕ) (held more : List Held) → held_at place xs (held ++ more) ≡ held_at place xs held ++ more
+held_at_append : (place : ℕ) (xs : List ℕ) (held more : List HeldClause) → held_at place xs (held ++ more) ≡ held_at place xs held ++ more
 held_at_append place [] held more = refl
 held_at_append place (x ∷ xs) held more = refl
 
@@ -26,17 +26,17 @@ held_from-push n (x ∷ xs) literals some =
     ∙ ap (λ (i : ℕ). held_at n x (held_from (n + 1) xs) ++ record { reference = i; literals = literals } ∷ []) (omega arith))
 
 -- a reference that no clause has takes none out
-without_none : (held : List Held) (r : ℕ) → ((h : Held) → Contains held h → h.reference ≢ r) → without held r ≡ held
+pub without_none : (held : List HeldClause) (r : ℕ) → ((h : HeldClause) → Contains held h → h.reference ≢ r) → without held r ≡ held
 without_none [] r h = refl
 without_none (x ∷ xs) r h =
     step (eqb x.reference r) (ne_eqb x.reference r (h x (Contains-head x xs x refl))) (without_none xs r (λ y m. h y (Contains-tail x xs y m)))
   where
     step : (b : Bool) → b ≡ false → without xs r ≡ xs → cond (not b) (x ∷ without xs r) (without xs r) ≡ x ∷ xs
     step true e rest = absurd (cc)
-    step false e rest = ap (λ (ys : List Held). x ∷ ys) rest
+    step false e rest = ap (λ (ys : List HeldClause). x ∷ ys) rest
 
 -- a slot whose place is another
-held_at_without : (place r : ℕ) (xs : List ℕ) (held : List Held) → place ≢ r → without (held_at place xs held) r ≡ held_at place xs (without held r)
+held_at_without : (place r : ℕ) (xs : List ℕ) (held : List HeldClause) → place ≢ r → without (held_at place xs held) r ≡ held_at place xs (without held r)
 held_at_without place r [] held n = refl
 held_at_without place r (x ∷ xs) held n = step (eqb place r) (ne_eqb place r n)
   where
@@ -46,7 +46,7 @@ held_at_without place r (x ∷ xs) held n = step (eqb place r) (ne_eqb place r n
     step false e = refl
 
 -- the slot whose place it is
-held_at_gone : (place : ℕ) (xs : List ℕ) (held : List Held) → without (held_at place xs held) place ≡ without held place
+held_at_gone : (place : ℕ) (xs : List ℕ) (held : List HeldClause) → without (held_at place xs held) place ≡ without held place
 held_at_gone place [] held = refl
 held_at_gone place (x ∷ xs) held = step (eqb place place) (search rules)
   where
@@ -76,7 +76,7 @@ full_count_more (x ∷ xs) (suc i) h =
     let next : suc i + 1 ≡ suc (i + 1) = omega arith in
     ap (λ (k : ℕ). full_count (take k (x ∷ xs))) next ∙ omega (arith, rest)
 
-held_at_map : (g : ℕ → ℕ) (m n : ℕ) (xs : List ℕ) (held : List Held) → g n ≡ m → held_at m xs (map (renamed g) held) ≡ map (renamed g) (held_at n xs held)
+held_at_map : (g : ℕ → ℕ) (m n : ℕ) (xs : List ℕ) (held : List HeldClause) → g n ≡ m → held_at m xs (map (renamed g) held) ≡ map (renamed g) (held_at n xs held)
 held_at_map g m n [] held e = refl
 held_at_map g m n (x ∷ xs) held e = ap (λ (i : ℕ). record { reference = i; literals = x ∷ xs } ∷ map (renamed g) held) (sym e)
 

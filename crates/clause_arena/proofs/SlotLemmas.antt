@@ -3,31 +3,31 @@ use Rattle.std.proofs.Common.{◌≡◌, ◌≢◌, ℕ, zero, suc, ◌<◌, ◌
 use Rattle.std.proofs.lemmas.List.Elements.{Contains-get_or}
 use Rattle.std.proofs.lemmas.List.Kept.{AllPairs-cons}
 use Rattle.clause_meaning.proofs.Members.{Contains-nil, Contains-cons_cases, Contains-head, Contains-tail}
-use Rattle.clause_arena.specs.State.{Held, AreAscending}
+use Rattle.clause_arena.specs.State.{HeldClause, AreAscending}
 use Rattle.clause_arena.specs.Slots.{held_at, held_from}
 
 pub All-from_member : {X : Type 0} (P : X → Type 0) (xs : List X) → ((x : X) → Contains xs x → P x) → All P xs
 All-from_member P xs h k d l = h (get_or xs k d) (Contains-get_or xs k d l)
 
-held_at_cases : (place : ℕ) (xs : List ℕ) (held : List Held) (h : Held) → Contains (held_at place xs held) h
+held_at_cases : (place : ℕ) (xs : List ℕ) (held : List HeldClause) (h : HeldClause) → Contains (held_at place xs held) h
     → ((h.reference ≡ place) × (h.literals ≡ xs) × (xs ≢ [])) ⊎ Contains held h
 held_at_cases place [] held h m = inr m
 held_at_cases place (x ∷ xs) held h m =
     elim (Contains-cons_cases (record { reference = place; literals = x ∷ xs }) held h m) [
-      | inl e ↦ inl (ap (λ (k : Held). k.reference) (sym e), ap (λ (k : Held). k.literals) (sym e), λ d. cc)
+      | inl e ↦ inl (ap (λ (k : HeldClause). k.reference) (sym e), ap (λ (k : HeldClause). k.literals) (sym e), λ d. cc)
       | inr t ↦ inr t
     ]
 
-held_at_rest : (place : ℕ) (xs : List ℕ) (held : List Held) (h : Held) → Contains held h → Contains (held_at place xs held) h
+held_at_rest : (place : ℕ) (xs : List ℕ) (held : List HeldClause) (h : HeldClause) → Contains held h → Contains (held_at place xs held) h
 held_at_rest place [] held h m = m
 held_at_rest place (x ∷ xs) held h m = Contains-tail (record { reference = place; literals = x ∷ xs }) held h m
 
-held_at_here : (place : ℕ) (xs : List ℕ) (held : List Held) → xs ≢ [] → Contains (held_at place xs held) (record { reference = place; literals = xs })
+held_at_here : (place : ℕ) (xs : List ℕ) (held : List HeldClause) → xs ≢ [] → Contains (held_at place xs held) (record { reference = place; literals = xs })
 held_at_here place [] held n = absurd (n refl)
 held_at_here place (x ∷ xs) held n = Contains-head (record { reference = place; literals = x ∷ xs }) held _ refl
 
 -- a live clause is that of its slot
-pub held_from_slot : (n : ℕ) (slots : List (List ℕ)) (h : Held) → Contains (held_from n slots) h
+pub held_from_slot : (n : ℕ) (slots : List (List ℕ)) (h : HeldClause) → Contains (held_from n slots) h
     → (k : ℕ) × (k < length slots) × (h.reference ≡ n + k) × (h.literals ≡ get_or slots k []) × (h.literals ≢ [])
 held_from_slot n [] h m = absurd (Contains-nil h m)
 held_from_slot n (literals ∷ others) h m =
@@ -70,17 +70,17 @@ slot_has slots r literals named =
     s.3 ∙ ap (λ (i : ℕ). get_or slots i []) place
 
 -- a live clause has its slot, and the slot has literals
-pub held_slot : (slots : List (List ℕ)) (h : Held) → Contains (held_from 0 slots) h → (h.reference < length slots) × (get_or slots h.reference [] ≢ [])
+pub held_slot : (slots : List (List ℕ)) (h : HeldClause) → Contains (held_from 0 slots) h → (h.reference < length slots) × (get_or slots h.reference [] ≢ [])
 held_slot slots h m = live_slot slots h.reference (m.0, h, m.1, m.2, refl)
 
 -- the references of slots from n on are at least n
-pub held_above : (n : ℕ) (slots : List (List ℕ)) (h : Held) → Contains (held_from n slots) h → n ≤ h.reference
+pub held_above : (n : ℕ) (slots : List (List ℕ)) (h : HeldClause) → Contains (held_from n slots) h → n ≤ h.reference
 held_above n slots h m = let s = held_from_slot n slots h m in omega (arith, s.2)
 
 pub held_ascend : (n : ℕ) (slots : List (List ℕ)) → AreAscending (held_from n slots)
 held_ascend n [] = λ i j d h p. absurd (omega arith)
 held_ascend n ([] ∷ others) = held_ascend (n + 1) others
 held_ascend n ((l ∷ ls) ∷ others) =
-    AllPairs-cons (λ (a b : Held). a.reference < b.reference) (record { reference = n; literals = l ∷ ls }) (held_from (n + 1) others)
-    (All-from_member (λ (h : Held). n < h.reference) (held_from (n + 1) others) (λ h m. let above = held_above (n + 1) others h m in omega arith))
+    AllPairs-cons (λ (a b : HeldClause). a.reference < b.reference) (record { reference = n; literals = l ∷ ls }) (held_from (n + 1) others)
+    (All-from_member (λ (h : HeldClause). n < h.reference) (held_from (n + 1) others) (λ h m. let above = held_above (n + 1) others h m in omega arith))
     (held_ascend (n + 1) others)

@@ -1,19 +1,19 @@
 -- The clauses in slots; a slot without literals is free.
 use Rattle.std.specs.Prelude.{◌≡◌, ◌<◌, ◌+◌, ℕ, List, [], ◌∷◌, Bool, true, false, length, map, take, slice_index_or}
 use Rattle.clause_arena.specs.declared.slots.Slot.{Slot}
-use Rattle.clause_arena.specs.State.{Held}
+use Rattle.clause_arena.specs.State.{HeldClause}
 
 -- the literals in each slot
 abbrev pub contents : List Slot → List (List ℕ)
 contents slots = map (λ slot. slot.literals.items) slots
 
 -- the clause of a place, before the others, where there is one
-abbrev pub held_at : ℕ → List ℕ → List Held → List Held
+abbrev pub held_at : ℕ → List ℕ → List HeldClause → List HeldClause
 held_at place [] held = held
 held_at place (l ∷ ls) held = record { reference = place; literals = l ∷ ls } ∷ held
 
 -- the clauses in slots, of which the first has the place n
-abbrev pub held_from : ℕ → List (List ℕ) → List Held
+abbrev pub held_from : ℕ → List (List ℕ) → List HeldClause
 held_from n [] = []
 held_from n (literals ∷ others) = held_at n literals (held_from (n + 1) others)
 

@@ -5,13 +5,13 @@ use Rattle.clause_meaning.specs.Literals.{AreBelow, HaveDistinctVariables}
 use Rattle.clause_arena.specs.declared.clause_ref.ClauseRef.{ClauseRef}
 
 -- a live clause with its reference
-pub record Held : Type 0 where
+pub record HeldClause : Type 0 where
   pub reference : ℕ
   pub literals : List ℕ
 
 pub record State : Type 0 where
   pub variables : ℕ
-  pub live : List Held
+  pub live : List HeldClause
   pub spare : ℕ
 
 -- the reference names the clause
@@ -27,7 +27,7 @@ abbrev pub LiveIn : State → List ℕ → Type 0
 LiveIn state clause = Any (λ held. held.literals ≡ clause) state.live
 
 -- each clause has a greater reference than those before it
-abbrev pub AreAscending : List Held → Type 0
+abbrev pub AreAscending : List HeldClause → Type 0
 AreAscending live = AllPairs (λ a b. a.reference < b.reference) live
 
 -- what a clause may be: its variables are in range and distinct
@@ -36,20 +36,20 @@ pub record IsClause (variables : ℕ) (literals : List ℕ) : Type 0 where
   pub distinct : HaveDistinctVariables literals
 
 -- the clause comes last
-abbrev pub with_clause : List Held → ℕ → List ℕ → List Held
+abbrev pub with_clause : List HeldClause → ℕ → List ℕ → List HeldClause
 with_clause live reference literals = live ++ record { reference = reference; literals = literals } ∷ []
 
 -- the clauses of other references
-abbrev pub without : List Held → ℕ → List Held
+abbrev pub without : List HeldClause → ℕ → List HeldClause
 without live reference = filter (λ held. not (held.reference == reference)) live
 
 -- the clauses are these, over the same variables; the spare number may differ
-pub record Holds (old new : State) (clauses : List Held) : Type 0 where
+pub record Holds (old new : State) (clauses : List HeldClause) : Type 0 where
   pub variables : new.variables ≡ old.variables
   pub live : new.live ≡ clauses
 
 -- the clause under its new reference
-abbrev pub renamed : (ℕ → ℕ) → Held → Held
+abbrev pub renamed : (ℕ → ℕ) → HeldClause → HeldClause
 renamed f held = record { reference = f held.reference; literals = held.literals }
 
 -- the reference under its new number

@@ -1,5 +1,5 @@
 -- Laws of literals.
-use Rattle.std.proofs.Common.{◌≡◌, ◌≢◌, ℕ, not, ◌⊎◌, arith}
+use Rattle.std.proofs.Common.{◌≡◌, ◌≢◌, ◌<◌, ◌*◌, ℕ, not, ◌⊎◌, arith}
 use Rattle.clause_meaning.specs.Literals.{opposite_of, variable_of, is_present}
 
 pub opposite_of-opposite_of : (l : ℕ) → opposite_of (opposite_of l) ≡ l
@@ -22,3 +22,8 @@ is_present-opposite_of l = grind arith
 pub same_variable : (k l : ℕ) → variable_of k ≡ variable_of l → (k ≡ l) ⊎ (k ≡ opposite_of l)
 unfolding opposite_of variable_of
 same_variable k l e = grind arith
+
+-- a literal of a variable below a bound is below twice the bound
+pub literal_below : (variables l : ℕ) → variable_of l < variables → l < 2 * variables
+unfolding variable_of
+literal_below variables l h = omega arith

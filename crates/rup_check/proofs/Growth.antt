@@ -1,15 +1,16 @@
 -- Marks that grow by what the live clauses force, and clauses that rest.
 use Rattle.std.proofs.Common.{◌≡◌, ℕ, ◌<◌, ◌+◌, ◌⊎◌, inl, inr, ◌↔◌, List, [], ◌∷◌, ◌++◌, length, take, get_or, Contains, Option, append_assoc, sym, subst, ap, ◌∙◌, rules}
-use Rattle.std.proofs.lemmas.Bool.{cases_eq}
 use Rattle.std.proofs.lemmas.List.Elements.{Contains-append_left, Contains-push, Contains-push_cases}
 use Rattle.clause_meaning.specs.Literals.{opposite_of}
 use Rattle.clause_meaning.specs.Refutation.{Forces, IsFalseUnder, Refutes, Reaches}
+use Rattle.clause_meaning.specs.Resting.{RestsUntil, Rests}
 use Rattle.clause_meaning.proofs.Members.{Contains-nil, Contains-take_more_cases}
 use Rattle.clause_meaning.proofs.LiteralLaws.{opposite_of-opposite_of, opposite_of-ne}
 use Rattle.clause_meaning.proofs.Chains.{Reaches-given, Reaches-forced, Reaches-more, Reaches-again, Refutes-from_clash, Refutes-from_reached, Forces-more}
+use Rattle.clause_meaning.proofs.Resting.{RestsUntil-more, RestsUntil-forced}
 use Rattle.rup_check.specs.Slots.{IsAt, HeldIn}
 use Rattle.rup_check.specs.Marks.{IsMarked, AreConsistent}
-use Rattle.rup_check.specs.Steps.{GrowsBy, HasTwoFree, Rests, RestAmong}
+use Rattle.rup_check.specs.Steps.{GrowsBy, RestAmong}
 
 pub consistent_push : (marked : List ℕ) (l : ℕ) → AreConsistent marked → (IsMarked marked (opposite_of l) → ⊥) → AreConsistent (marked ++ l ∷ [])
 consistent_push marked l consistent free k p q =
@@ -70,41 +71,6 @@ refuted_by_false slots old new c grown s f = Refutes-from_clash (HeldIn slots) (
 pub refuted_later : (slots : List (Option (List ℕ))) (old new : List ℕ) → GrowsBy slots old new → Refutes (HeldIn slots) (IsMarked new) → Refutes (HeldIn slots) (IsMarked old)
 refuted_later slots old new grown r = Refutes-from_reached (HeldIn slots) (IsMarked old) (IsMarked new) grown.reached r
 
--- fewer literals are true, and more are marked
-pub Rests-more : (K L M N : ℕ → Type 0) (c : List ℕ) → ((k : ℕ) → L k → K k) → ((k : ℕ) → M k → N k) → Rests K M c → Rests L N c
-Rests-more K L M N c less more rests = record {
-  not_false = λ f. rests.not_false (λ k m. less (opposite_of k) (f k m));
-  forced = λ l f. more l (rests.forced l (Forces-more c L K l less f));
-}
-
--- a clause rests once what it forces is marked
-pub Rests-forced : (marked : List ℕ) (l : ℕ) (c : List ℕ) → Forces c (IsMarked marked) l → (IsMarked marked (opposite_of l) → ⊥)
-    → Rests (IsMarked marked) (IsMarked (marked ++ l ∷ [])) c
-Rests-forced marked l c f free = record {
-  not_false = λ g. free (g l f.member);
-  forced = λ k g. elim (cases_eq l k) [
-    | inl e ↦ subst (IsMarked (marked ++ l ∷ [])) e (Contains-push marked l)
-    | inr n ↦ absurd (free (g.others l f.member n))
-  ];
-}
-
--- a clause with two literals whose opposites aren't marked rests
-pub Rests-two_free : (marked c : List ℕ) → HasTwoFree marked c → Rests (IsMarked marked) (IsMarked marked) c
-Rests-two_free marked c two = record {
-  not_false = λ f. two.first_free (f two.first two.has_first);
-  forced = λ l f. elim (cases_eq two.first l) [
-    | inl e ↦ absurd (two.second_free (f.others two.second two.has_second (λ d. two.differ (e ∙ sym d))))
-    | inr n ↦ absurd (two.first_free (f.others two.first two.has_first n))
-  ];
-}
-
--- a clause with a literal that is marked rests
-pub Rests-marked : (marked c : List ℕ) (l : ℕ) → AreConsistent marked → Contains c l → IsMarked marked l → Rests (IsMarked marked) (IsMarked marked) c
-Rests-marked marked c l consistent member m = record {
-  not_false = λ f. consistent l m (f l member);
-  forced = λ k f. elim (cases_eq l k) [ inl e ↦ subst (IsMarked marked) e m | inr n ↦ absurd (consistent l m (f.others l member n)) ];
-}
-
 -- what a look over the first i numbers keeps
 pub record LooksHold (slots : List (Option (List ℕ))) (numbers old new : List ℕ) (i : ℕ) : Type 0 where
   pub grown : GrowsBy slots old new
@@ -117,11 +83,11 @@ LooksHold-start slots numbers old consistent = record {
 }
 
 rest_more : (slots : List (Option (List ℕ))) (numbers old new newer : List ℕ) (i : ℕ) → i < length numbers → RestAmong slots (take i numbers) old new
-    → ((k : ℕ) → IsMarked new k → IsMarked newer k) → ((c : List ℕ) → IsAt slots (get_or numbers i 0) c → Rests (IsMarked old) (IsMarked newer) c)
+    → ((k : ℕ) → IsMarked new k → IsMarked newer k) → ((c : List ℕ) → IsAt slots (get_or numbers i 0) c → RestsUntil (IsMarked old) (IsMarked newer) c)
     → RestAmong slots (take (i + 1) numbers) old newer
 rest_more slots numbers old new newer i h rest more here n c m e =
     elim (Contains-take_more_cases numbers i 0 n h m) [
-      | inl t ↦ Rests-more (IsMarked old) (IsMarked old) (IsMarked new) (IsMarked newer) c (λ k p. p) more (rest n c t e)
+      | inl t ↦ RestsUntil-more (IsMarked old) (IsMarked old) (IsMarked new) (IsMarked newer) c (λ k p. p) more (rest n c t e)
       | inr s ↦ here c (subst (λ (j : ℕ). IsAt slots j c) (sym s) e)
     ]
 
@@ -140,16 +106,16 @@ pub LooksHold-forces : (slots : List (Option (List ℕ))) (numbers old new : Lis
 LooksHold-forces slots numbers old new i l c h holds here only f free = record {
   grown = GrowsBy-push slots old new c l holds.grown (get_or numbers i 0, here) f free;
   rest = rest_more slots numbers old new (new ++ l ∷ []) i h holds.rest (λ k m. Contains-append_left new (l ∷ []) k m)
-      (λ d e. subst (Rests (IsMarked old) (IsMarked (new ++ l ∷ []))) (only d e)
-      (Rests-more (IsMarked new) (IsMarked old) (IsMarked (new ++ l ∷ [])) (IsMarked (new ++ l ∷ [])) c (λ k m. GrowsBy-stays slots old new k holds.grown m) (λ k m. m) (Rests-forced new l c f free)));
+      (λ d e. subst (RestsUntil (IsMarked old) (IsMarked (new ++ l ∷ []))) (only d e)
+      (RestsUntil-more (IsMarked new) (IsMarked old) (IsMarked (new ++ l ∷ [])) (IsMarked (new ++ l ∷ [])) c (λ k m. GrowsBy-stays slots old new k holds.grown m) (λ k m. m) (RestsUntil-forced (IsMarked new) (IsMarked (new ++ l ∷ [])) c l f free (Contains-push new l))));
 }
 
 -- the clause of the number rests
 pub LooksHold-rests : (slots : List (Option (List ℕ))) (numbers old new : List ℕ) (i : ℕ) (c : List ℕ) → i < length numbers → LooksHold slots numbers old new i
-    → ((d : List ℕ) → IsAt slots (get_or numbers i 0) d → c ≡ d) → Rests (IsMarked new) (IsMarked new) c → LooksHold slots numbers old new (i + 1)
+    → ((d : List ℕ) → IsAt slots (get_or numbers i 0) d → c ≡ d) → Rests (IsMarked new) c → LooksHold slots numbers old new (i + 1)
 LooksHold-rests slots numbers old new i c h holds only rests = record {
   grown = holds.grown;
   rest = rest_more slots numbers old new new i h holds.rest (λ k m. m)
-      (λ d e. subst (Rests (IsMarked old) (IsMarked new)) (only d e)
-      (Rests-more (IsMarked new) (IsMarked old) (IsMarked new) (IsMarked new) c (λ k m. GrowsBy-stays slots old new k holds.grown m) (λ k m. m) rests));
+      (λ d e. subst (RestsUntil (IsMarked old) (IsMarked new)) (only d e)
+      (RestsUntil-more (IsMarked new) (IsMarked old) (IsMarked new) (IsMarked new) c (λ k m. GrowsBy-stays slots old new k holds.grown m) (λ k m. m) rests));
 }

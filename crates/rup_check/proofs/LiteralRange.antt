@@ -2,11 +2,7 @@
 use Rattle.std.proofs.Common.{◌≡◌, ℕ, ◌*◌, ◌<◌, List, get_or, All, Contains, arith, subst, sym}
 use Rattle.std.proofs.lemmas.List.Elements.{All-contains}
 use Rattle.clause_meaning.specs.Literals.{AreBelow, opposite_of, variable_of}
-use Rattle.clause_meaning.proofs.LiteralLaws.{variable_of-opposite_of}
-
-pub literal_below : (variables l : ℕ) → variable_of l < variables → l < 2 * variables
-unfolding variable_of
-literal_below variables l h = omega arith
+use Rattle.clause_meaning.proofs.LiteralLaws.{variable_of-opposite_of, literal_below}
 
 pub variable_below : (variables l : ℕ) → l < 2 * variables → variable_of l < variables
 unfolding variable_of

@@ -1,35 +1,26 @@
 -- Clauses rest as far as the marked literals have been propagated.
-use Rattle.std.proofs.Common.{◌≡◌, ℕ, ◌<◌, ◌≤◌, ◌+◌, ◌⊎◌, inl, inr, List, [], ◌∷◌, length, take, get_or, Contains, Option, sym, subst, ap, ◌∙◌, arith}
+use Rattle.std.proofs.Common.{◌≡◌, ℕ, ◌<◌, ◌≤◌, ◌+◌, ◌⊎◌, inl, inr, List, [], length, take, get_or, Contains, Option, sym, subst, ap, ◌∙◌, arith}
 use Rattle.std.proofs.lemmas.Bool.{cases_eq}
 use Rattle.std.proofs.lemmas.List.{take-append-le}
 use Rattle.clause_meaning.specs.Literals.{opposite_of}
 use Rattle.clause_meaning.specs.Refutation.{Clashes, Refutes, IsClosed}
-use Rattle.clause_meaning.proofs.Members.{Contains-nil, Contains-cons_cases, Contains-head, Contains-tail, Contains-take, Contains-take_all, Contains-take_more_cases}
+use Rattle.clause_meaning.specs.Resting.{RestsUntil, Rests}
+use Rattle.clause_meaning.proofs.Members.{Contains-nil, Contains-take, Contains-take_all, Contains-take_more_cases, contained_or_not}
 use Rattle.clause_meaning.proofs.LiteralLaws.{opposite_of-opposite_of}
 use Rattle.clause_meaning.proofs.Chains.{Refutes-more, closed_not_refuted}
+use Rattle.clause_meaning.proofs.Resting.{RestsUntil-more}
 use Rattle.rup_check.specs.Slots.{IsAt, HeldIn}
 use Rattle.rup_check.specs.Listed.{HasTwo}
 use Rattle.rup_check.specs.Marks.{IsMarked}
-use Rattle.rup_check.specs.Steps.{GrowsBy, Rests, RestAmong}
-use Rattle.rup_check.proofs.Growth.{Rests-more, GrowsBy-stays}
-
-contained_or_not : (xs : List ℕ) (k : ℕ) → Contains xs k ⊎ (Contains xs k → ⊥)
-contained_or_not [] k = inr (λ m. Contains-nil k m)
-contained_or_not (x ∷ xs) k =
-    elim (cases_eq x k) [
-      | inl e ↦ inl (Contains-head x xs k e)
-      | inr n ↦ elim (contained_or_not xs k) [
-        | inl m ↦ inl (Contains-tail x xs k m)
-        | inr f ↦ inr (λ m. elim (Contains-cons_cases x xs k m) [ inl e ↦ n e | inr t ↦ f t ])
-      ]
-    ]
+use Rattle.rup_check.specs.Steps.{GrowsBy, RestAmong}
+use Rattle.rup_check.proofs.Growth.{GrowsBy-stays}
 
 -- each live clause rests, where the first literals that were marked are true
 abbrev pub AllRest : List (Option (List ℕ)) → List ℕ → ℕ → Type 0
-AllRest slots marked done = (n : ℕ) (c : List ℕ) → IsAt slots n c → Rests (Contains (take done marked)) (IsMarked marked) c
+AllRest slots marked done = (n : ℕ) (c : List ℕ) → IsAt slots n c → RestsUntil (Contains (take done marked)) (IsMarked marked) c
 
 -- two literals that differ are neither both false nor all but one false where nothing is true
-rests_by_two : (c : List ℕ) (M : ℕ → Type 0) → HasTwo c → Rests (Contains []) M c
+rests_by_two : (c : List ℕ) (M : ℕ → Type 0) → HasTwo c → RestsUntil (Contains []) M c
 rests_by_two c M two = record {
   not_false = λ f. Contains-nil (opposite_of two.0) (f two.0 two.2);
   forced = λ l f. elim (cases_eq two.0 l) [
@@ -44,11 +35,11 @@ pub AllRest-start : (slots : List (Option (List ℕ))) (short old new : List ℕ
 AllRest-start slots short old new listed rest n c e =
     elim (listed n c e) [
       | inl two ↦ rests_by_two c (IsMarked new) two
-      | inr m ↦ Rests-more (IsMarked old) (Contains []) (IsMarked new) (IsMarked new) c (λ k p. absurd (Contains-nil k p)) (λ k p. p) (rest n c m e)
+      | inr m ↦ RestsUntil-more (IsMarked old) (Contains []) (IsMarked new) (IsMarked new) c (λ k p. absurd (Contains-nil k p)) (λ k p. p) (rest n c m e)
     ]
 
 -- a literal whose opposite the clause hasn't makes no difference
-rests_without : (K L M : ℕ → Type 0) (x : ℕ) (c : List ℕ) → ((k : ℕ) → L k → K k ⊎ (x ≡ k)) → (Contains c (opposite_of x) → ⊥) → Rests K M c → Rests L M c
+rests_without : (K L M : ℕ → Type 0) (x : ℕ) (c : List ℕ) → ((k : ℕ) → L k → K k ⊎ (x ≡ k)) → (Contains c (opposite_of x) → ⊥) → RestsUntil K M c → RestsUntil L M c
 rests_without K L M x c cases none rests = record {
   not_false = λ f. rests.not_false (λ k m. known k m (f k m));
   forced = λ l f. rests.forced l (record { member = f.member; others = λ k m n. known k m (f.others k m n) });
@@ -67,11 +58,11 @@ pub AllRest-more : (slots : List (Option (List ℕ))) (numbers old new : List �
     → RestAmong slots numbers old new → AllRest slots new (done + 1)
 AllRest-more slots numbers old new done x h is grown settled listed rest n c e =
     let same : take (done + 1) new ≡ take (done + 1) old = ap (take (done + 1)) grown.more.1 ∙ take-append-le (done + 1) old grown.more.0 (omega arith) in
-    subst (λ (ls : List ℕ). Rests (Contains ls) (IsMarked new) c) (sym same)
+    subst (λ (ls : List ℕ). RestsUntil (Contains ls) (IsMarked new) c) (sym same)
     (elim (contained_or_not c (opposite_of x)) [
-      | inl m ↦ Rests-more (IsMarked old) (Contains (take (done + 1) old)) (IsMarked new) (IsMarked new) c (λ k p. Contains-take old (done + 1) k p) (λ k p. p) (rest n c (listed n c e m) e)
+      | inl m ↦ RestsUntil-more (IsMarked old) (Contains (take (done + 1) old)) (IsMarked new) (IsMarked new) c (λ k p. Contains-take old (done + 1) k p) (λ k p. p) (rest n c (listed n c e m) e)
       | inr none ↦ rests_without (Contains (take done old)) (Contains (take (done + 1) old)) (IsMarked new) x c (λ k p. last k (Contains-take_more_cases old done 0 k h p)) none
-          (Rests-more (Contains (take done old)) (Contains (take done old)) (IsMarked old) (IsMarked new) c (λ k p. p) (λ k p. GrowsBy-stays slots old new k grown p) (settled n c e))
+          (RestsUntil-more (Contains (take done old)) (Contains (take done old)) (IsMarked old) (IsMarked new) c (λ k p. p) (λ k p. GrowsBy-stays slots old new k grown p) (settled n c e))
     ])
   where
     last : (k : ℕ) → Contains (take done old) k ⊎ (get_or old done 0 ≡ k) → Contains (take done old) k ⊎ (x ≡ k)
@@ -84,8 +75,8 @@ pub settled_not_refuted : (slots : List (Option (List ℕ))) (old new : List ℕ
 settled_not_refuted slots old new done grown all settled r =
     closed_not_refuted (HeldIn slots) (IsMarked old) (IsMarked new) closed (λ l m. GrowsBy-stays slots old new l grown m) r
   where
-    rest : (n : ℕ) (c : List ℕ) → IsAt slots n c → Rests (IsMarked new) (IsMarked new) c
-    rest n c e = Rests-more (Contains (take done new)) (IsMarked new) (IsMarked new) (IsMarked new) c (λ k p. Contains-take_all new done k all p) (λ k p. p) (settled n c e)
+    rest : (n : ℕ) (c : List ℕ) → IsAt slots n c → Rests (IsMarked new) c
+    rest n c e = RestsUntil-more (Contains (take done new)) (IsMarked new) (IsMarked new) (IsMarked new) c (λ k p. Contains-take_all new done k all p) (λ k p. p) (settled n c e)
 
     no_clash : Clashes (HeldIn slots) (IsMarked new) → ⊥
     no_clash (inl (c, s, f)) = (rest s.0 c s.1).not_false f

@@ -1,34 +1,13 @@
 -- The table of marks beside the list of marked literals.
-use Rattle.std.proofs.Common.{◌≡◌, ◌≢◌, ℕ, suc, ◌<◌, ◌+◌, ◌⊎◌, inl, inr, ◌↔◌, List, [], ◌∷◌, ◌++◌, length, take, get_or, set, get_or-set_same, get_or-set_other, Contains, All, replicate, Bool, true, false, cond, refl, sym, subst, ap, ◌∙◌, arith}
-use Rattle.std.proofs.lemmas.Bool.{cases_eq, cases_lt, false≢true, true≢false, false_from_ne_true}
+use Rattle.std.proofs.Common.{◌≡◌, ℕ, suc, ◌<◌, ◌+◌, ◌⊎◌, inl, inr, ◌↔◌, List, [], ◌∷◌, ◌++◌, length, take, get_or, set, Contains, All, replicate, Bool, true, false, cond, refl, sym, subst, ◌∙◌, arith}
+use Rattle.std.proofs.lemmas.Bool.{cases_lt, false≢true, true≢false, false_from_ne_true}
 use Rattle.std.proofs.lemmas.List.{get_or-replicate, get_or_past, get_or_default, length-replicate, length-set, length_push}
 use Rattle.std.proofs.lemmas.List.Sums.{sum_by-set, count_by-le-length}
 use Rattle.std.proofs.lemmas.List.Elements.{Contains-append_left, Contains-push, Contains-push_cases, Contains-get_or}
 use Rattle.clause_meaning.proofs.Members.{Contains-nil, Contains-take_more_cases, Contains-take_more_left, Contains-take_more_at}
-use Rattle.rup_check.specs.Table.{HasMark, mark_count, Agrees}
-
-pub HasMark-below : (table : List Bool) (l : ℕ) → HasMark table l → l < length table
-HasMark-below table l m =
-    elim (cases_lt l (length table)) [ inl h ↦ h | inr h ↦ absurd (false≢true (sym (get_or_past table l false h) ∙ m)) ]
-
-HasMark-set_cases : (table : List Bool) (l k : ℕ) → HasMark (set table l true) k → (k ≡ l) ⊎ HasMark table k
-HasMark-set_cases table l k h =
-    elim (cases_eq k l) [ inl e ↦ inl e | inr n ↦ inr (sym (get_or-set_other table l k true false n) ∙ h) ]
-
-HasMark-set_at : (table : List Bool) (l k : ℕ) → l < length table → k ≡ l → HasMark (set table l true) k
-HasMark-set_at table l k h e = ap (λ (i : ℕ). get_or (set table l true) i false) e ∙ get_or-set_same table l true false h
-
-HasMark-set_stays : (table : List Bool) (l k : ℕ) → l < length table → HasMark table k → HasMark (set table l true) k
-HasMark-set_stays table l k h m =
-    elim (cases_eq k l) [ inl e ↦ HasMark-set_at table l k h e | inr n ↦ get_or-set_other table l k true false n ∙ m ]
-
--- a mark that is taken away
-pub HasMark-gone_cases : (table : List Bool) (l k : ℕ) → l < length table → HasMark (set table l false) k → (k ≢ l) × HasMark table k
-HasMark-gone_cases table l k h m =
-    elim (cases_eq k l) [
-      | inl e ↦ (let same = ap (λ (i : ℕ). get_or (set table l false) i false) e in absurd (false≢true (sym (same ∙ get_or-set_same table l false false h) ∙ m)))
-      | inr n ↦ (n, sym (get_or-set_other table l k false false n) ∙ m)
-    ]
+use Rattle.clause_meaning.specs.Marks.{HasMark}
+use Rattle.clause_meaning.proofs.MarkLemmas.{HasMark-below, HasMark-set_cases, HasMark-set_at, HasMark-set_stays}
+use Rattle.rup_check.specs.Table.{mark_count, Agrees}
 
 mark_count-set : (table : List Bool) (l : ℕ) → l < length table → (HasMark table l → ⊥) → mark_count (set table l true) ≡ mark_count table + 1
 mark_count-set table l below free =
@@ -44,12 +23,12 @@ pub Agrees-push : (table : List Bool) (literals : List ℕ) (l : ℕ) → Agrees
 Agrees-push table literals l agrees below new = record {
   same = λ k. (
     λ m. elim (HasMark-set_cases table l k m) [
-      | inl e ↦ subst (Contains (literals ++ l ∷ [])) (sym e) (Contains-push literals l)
+      | inl e ↦ subst (Contains (literals ++ l ∷ [])) e (Contains-push literals l)
       | inr old ↦ Contains-append_left literals (l ∷ []) k ((agrees.same k).0 old)
     ],
     λ m. elim (Contains-push_cases literals l k m) [
       | inl old ↦ HasMark-set_stays table l k below ((agrees.same k).1 old)
-      | inr e ↦ HasMark-set_at table l k below (sym e)
+      | inr e ↦ HasMark-set_at table l k below e
     ],
   );
   counted =

@@ -1,11 +1,8 @@
 -- The marks by literal beside the list of the marked ones.
-use Rattle.std.specs.Prelude.{◌≡◌, ◌≤◌, ◌*◌, ◌↔◌, ℕ, List, Bool, true, false, length, Contains, count_by, slice_index_or, vec_capacity}
+use Rattle.std.specs.Prelude.{◌≡◌, ◌≤◌, ◌*◌, ◌↔◌, ℕ, List, Bool, length, Contains, count_by, vec_capacity}
+use Rattle.clause_meaning.specs.Marks.{HasMark}
 use Rattle.rup_check.specs.declared.marks.Marks.TheInside.{Inside}
 use Rattle.rup_check.specs.Marks.{Marked}
-
--- the literal is marked in the table
-abbrev pub HasMark : List Bool → ℕ → Type 0
-HasMark table l = slice_index_or table l false ≡ true
 
 -- how many literals are marked in the table
 abbrev pub mark_count : List Bool → ℕ

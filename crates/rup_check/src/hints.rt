@@ -3,8 +3,8 @@
 ghost use Rattle.std.specs.Prelude.{◌≡◌};
 ghost use Rattle.std.specs.Bool.{OnTrue};
 ghost use Rattle.clause_meaning.specs.Literals.{AreBelow};
+ghost use Rattle.clause_meaning.specs.Resting.{Rests};
 ghost use Rattle.rup_check.specs.Marks.{IsMarked, AreConsistent};
-ghost use Rattle.rup_check.specs.Steps.{Rests};
 
 use crate::marks::Marks;
 use cq_terms::NoMemory;
@@ -32,7 +32,7 @@ pub fn shows_rest(marks: &Marks, clause: &[u32], hint: Hint) -> bool
     requires in_range { AreBelow marks.now.variables clause.now }
     requires consistent { AreConsistent marks.now.literals }
 
-    ensures { OnTrue result (Rests (IsMarked marks.now.literals) (IsMarked marks.now.literals) clause.now) }
+    ensures { OnTrue result (Rests (IsMarked marks.now.literals) clause.now) }
 {
     if hint.first >= clause.len() {
         return false;

@@ -4,7 +4,7 @@ ghost use Rattle.std.specs.Prelude.{◌≡◌, ◌↔◌, ◌<◌, ◌≤◌, �
 ghost use Rattle.std.specs.Bool.{OnTrue, OnFalse};
 ghost use Rattle.clause_meaning.specs.Literals.{AreBelow, opposite_of, variable_of};
 ghost use Rattle.rup_check.specs.Marks.{IsMarked, AreConsistent, HasOpposites};
-ghost use Rattle.rup_check.specs.Table.{HasMark};
+ghost use Rattle.clause_meaning.specs.Marks.{HasMark};
 
 use clause_meaning::opposite;
 use cq_terms::NoMemory;

@@ -4,42 +4,21 @@ ghost use Rattle.std.specs.Prelude.{◌≡◌, ◌↔◌, IsTrue, Contains, [], 
 ghost use Rattle.std.specs.Bool.{OnTrue, OnFalse};
 ghost use Rattle.clause_meaning.specs.Literals.{AreBelow};
 ghost use Rattle.clause_meaning.specs.Refutation.{Refutes};
+ghost use Rattle.clause_meaning.specs.Resting.{AreFree, Says};
 ghost use Rattle.rup_check.specs.Slots.{IsAt, HeldIn};
 ghost use Rattle.rup_check.specs.Marks.{IsMarked, AreConsistent};
-ghost use Rattle.rup_check.specs.Steps.{AreFree, Says, FindsBelow, GrowsBy, RestAmong};
+ghost use Rattle.rup_check.specs.Steps.{FindsBelow, GrowsBy, RestAmong};
 
 use crate::clauses::Clauses;
 use crate::hints::{Hint, hint_for, shows_rest};
 use crate::marks::{Marks, mark_all};
-use clause_meaning::opposite;
-
-/// Which literals of a clause aren't false: those whose opposite isn't marked.
-#[derive(Clone, Copy)]
-pub enum FreeLiterals {
-    /// All literals are false.
-    Nothing,
-    /// This one alone isn't.
-    One(u32),
-    /// Two different ones aren't.
-    Several,
-}
-
-/// What a look at a clause finds.
-#[derive(Clone, Copy)]
-pub enum Finding {
-    /// All its literals are false.
-    IsFalse,
-    /// All its literals but this one are false, and this one isn't marked.
-    Forces(u32),
-    /// Neither: it isn't false, and what it forces is marked.
-    Rests,
-}
+use clause_meaning::{Finding, FreeLiterals, opposite};
 
 /// Looks for a literal that isn't false, and for another.
 fn free_literals(marks: &Marks, clause: &[u32]) -> FreeLiterals
     requires in_range { AreBelow marks.now.variables clause.now }
 
-    ensures { AreFree marks.now.literals clause.now result }
+    ensures { AreFree (IsMarked marks.now.literals) clause.now result }
 {
     let mut free = None;
     for literal in clause {
@@ -65,7 +44,7 @@ fn look_at(marks: &Marks, clause: &[u32]) -> Finding
     requires in_range { AreBelow marks.now.variables clause.now }
     requires consistent { AreConsistent marks.now.literals }
 
-    ensures says { Says marks.now.literals clause.now result }
+    ensures says { Says (IsMarked marks.now.literals) clause.now result }
     ensures in_range { FindsBelow marks.now.variables result }
 {
     match free_literals(marks, clause) {
@@ -86,7 +65,7 @@ fn look_by_hint(marks: &Marks, clause: &[u32], hints: &mut [Hint], number: usize
     requires in_range { AreBelow marks.now.variables clause.now }
     requires consistent { AreConsistent marks.now.literals }
 
-    ensures says { Says marks.now.literals clause.now result }
+    ensures says { Says (IsMarked marks.now.literals) clause.now result }
     ensures in_range { FindsBelow marks.now.variables result }
 {
     if number >= hints.len() {

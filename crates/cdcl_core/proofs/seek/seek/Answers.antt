@@ -25,7 +25,7 @@ returns-in-Refuted-clause-ends g c =
 pub returns-then-budget-clause-ends : goal.returns-then-budget-clause-ends
 returns-then-budget-clause-ends g c =
     let new = c.advance.new.self in
-    let stops = subst (StoreStops c.args.assume.now new) c.in-Conflict.is c.advance.ensures.stops in (
+    let stops = subst (StoreStops c.args.assume.now new) c.in-Falsified.is c.advance.ensures.stops in (
       c.if-budget.true,
       λ r. stops.3 (subst (λ (vs : List ℕ). IsRefuted (bare new) vs c.args.assume.now) (sym (c.advance.ensures.focus ∙ c.loop-clause.invariant.1.focus)) r),
     )
@@ -34,7 +34,7 @@ pub returns-in-Err-clause-learned : goal.returns-in-Err-clause-learned
 returns-in-Err-clause-learned g c =
     let new = c.advance.new.self in
     let was = c.loop-clause.store in
-    let stops = subst (StoreStops c.args.assume.now new) c.in-Conflict.is c.advance.ensures.stops in
+    let stops = subst (StoreStops c.args.assume.now new) c.in-Falsified.is c.advance.ensures.stops in
     let focus : new.trail.focus ≡ c.args.scope.now = c.advance.ensures.focus ∙ c.loop-clause.invariant.1.focus in
     let content = g.L.ProofLog.content in
     let faults = g.L.ProofLog.faults in
@@ -52,7 +52,7 @@ loop-clause-preserved g c =
     let new = c.advance.new.self in
     let was = c.loop-clause.store in
     let entries = c.loop-clause.invariant.0 in
-    let stops = subst (StoreStops c.args.assume.now new) c.in-Conflict.is c.advance.ensures.stops in
+    let stops = subst (StoreStops c.args.assume.now new) c.in-Falsified.is c.advance.ensures.stops in
     let focus : new.trail.focus ≡ c.args.scope.now = c.advance.ensures.focus ∙ c.loop-clause.invariant.1.focus in
     let content = g.L.ProofLog.content in
     let faults = g.L.ProofLog.faults in
@@ -68,8 +68,8 @@ loop-clause-preserved g c =
             (content c.learn.new.log) (faults c.args.log.now) (faults c.loop-clause.log) (faults c.learn.new.log) entries entry ran
             (λ r. stops.3 (subst (λ (vs : List ℕ). IsRefuted (bare new) vs c.args.assume.now) (sym focus) r))
             (subst (λ (vs : List ℕ). IsNew (bare new) vs entry) focus learned.1) learned.2 learned.3 learned.4 (less_than_limit budget ran.learns.within c.if-budget.false) refl refl;
-        seeks = subst (Seeks c.args.assume.now c.learn.new.self.trail c.learn.new.self.arena) (sym (c.min-assumed.ensures ∙ ap (min c.in-Conflict.level) c.level.ensures))
-            (c.in-Ok.ensures.seeks c.args.assume.now c.in-Conflict.level stops.0);
+        seeks = subst (Seeks c.args.assume.now c.learn.new.self.trail c.learn.new.self.arena) (sym (c.min-assumed.ensures ∙ ap (min c.in-Falsified.level) c.level.ensures))
+            (c.in-Ok.ensures.seeks c.args.assume.now c.in-Falsified.level stops.0);
         focus = c.in-Ok.ensures.focus ∙ focus;
       },
     )

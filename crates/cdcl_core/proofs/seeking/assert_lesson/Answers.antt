@@ -1,6 +1,6 @@
 use Rattle.std.proofs.Common.{◌<◌, ◌≤◌, ℕ, length, min, sym, subst, arith}
 use Rattle.clause_meaning.specs.Literals.{variable_of}
-use Rattle.conflict_analysis.proofs.AfterLesson.{lesson_unassigned, lesson_reason}
+use Rattle.clause_learning.proofs.AfterLesson.{lesson_unassigned, lesson_reason}
 use Rattle.cdcl_core.proofs.GoesBack.{SeeksApart-counts, IsBack-cut, Seeks-unit, Seeks-forced, lesson_long}
 use Rattle.cdcl_core.proofs.seeking.assert_lesson.Goals as goal
 

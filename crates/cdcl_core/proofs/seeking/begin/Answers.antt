@@ -3,7 +3,7 @@ use Rattle.clause_meaning.specs.Assignments.{Separates}
 use Rattle.clause_arena.specs.State.{LiveIn}
 use Rattle.cdcl_trail.specs.State.{State}
 use Rattle.clause_meaning.specs.Learning.{is_in}
-use Rattle.conflict_analysis.proofs.Keeping.{IsSearching-start}
+use Rattle.clause_learning.proofs.Keeping.{IsSearching-start}
 use Rattle.cdcl_core.proofs.seeking.begin.Goals as goal
 
 pub fix_units-requires-clause-begins : goal.fix_units-requires-clause-begins

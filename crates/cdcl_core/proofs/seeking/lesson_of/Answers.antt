@@ -1,5 +1,5 @@
-use Rattle.conflict_analysis.specs.Searching.{Searched}
-use Rattle.conflict_analysis.proofs.Permuted.{IsLesson-permuted}
+use Rattle.clause_learning.specs.Searching.{Searched}
+use Rattle.clause_learning.proofs.Permuted.{IsLesson-permuted}
 use Rattle.cdcl_core.proofs.seeking.lesson_of.Goals as goal
 
 pub returns-clause-exact : goal.returns-clause-exact

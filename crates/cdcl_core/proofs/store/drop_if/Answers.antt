@@ -1,6 +1,6 @@
 use Rattle.std.proofs.Common.{◌≡◌, ℕ, ◌≤◌, List, true, false, refl, sym, subst, ap, ◌∙◌, arith}
 use Rattle.clause_meaning.specs.Literals.{AreBelow}
-use Rattle.clause_arena.specs.State.{Held}
+use Rattle.clause_arena.specs.State.{HeldClause}
 use Rattle.cdcl_core.specs.Labels.{is_taken}
 use Rattle.cdcl_core.specs.Store.{tally, occurrences}
 use Rattle.cdcl_core.proofs.Counting.{occurrences-dropped, tally-le_occurrences}
@@ -19,7 +19,7 @@ lower-requires-clause-in_range c =
 
 pub lower-requires-clause-counted : goal.lower-requires-clause-counted
 lower-requires-clause-counted c v =
-    let held : Held = record { reference = c.args.clause.place; literals = c.view-literals.result.now } in
+    let held : HeldClause = record { reference = c.args.clause.place; literals = c.view-literals.result.now } in
     subst (λ (n : ℕ). tally v c.view-literals.result.now ≤ n) (sym (c.requires.counted v))
     (tally-le_occurrences v c.args.arena.now.live held c.requires.ascending c.view-literals.ensures.named)
 
@@ -32,7 +32,7 @@ returns-clause-exact c = (
 
 pub returns-clause-counted : goal.returns-clause-counted
 returns-clause-counted c v =
-    let held : Held = record { reference = c.args.clause.place; literals = c.view-literals.result.now } in
+    let held : HeldClause = record { reference = c.args.clause.place; literals = c.view-literals.result.now } in
     let dropped = occurrences-dropped v c.args.arena.now.live held c.requires.ascending c.view-literals.ensures.named in
     let left = ap (occurrences v) c.drop_clause.ensures.exact.live in
     let lowered = c.lower.ensures.lowered v in

@@ -4,9 +4,9 @@ use Rattle.std.proofs.lemmas.List.Elements.{Contains-get_or}
 use Rattle.clause_meaning.specs.Literals.{variable_of}
 use Rattle.clause_meaning.proofs.LiteralLaws.{variable_of-opposite_of}
 use Rattle.clause_meaning.proofs.Members.{Contains-take, Contains-take_all}
+use Rattle.clause_meaning.specs.Resting.{IsOnlyFree}
+use Rattle.clause_meaning.proofs.Resting.{IsOnlyFree-more_false, IsOnlyFree-more_none, IsOnlyFree-more_same}
 use Rattle.cdcl_trail.specs.Assigned.{IsTrueOn}
-use Rattle.cdcl_trail.specs.Looks.{IsOnlyFree}
-use Rattle.cdcl_trail.proofs.Freedom.{IsOnlyFree-more_marked, IsOnlyFree-more_none, IsOnlyFree-more_same}
 use Rattle.cdcl_trail.proofs.looks.free_literals.Goals as goal
 use Rattle.cdcl_trail.proofs.looks.free_literals.Goals.{then-not-is_true+in-None, then-not-is_true+in-Some+else-other-literal, else-not-is_true}
 
@@ -48,7 +48,7 @@ loop-literal-preserved c =
           (IsOnlyFree-more_same K clause i w.in-Some.other c.loop-literal-test.true w.if-other-literal.false (subst (IsOnlyFree K (take i clause)) w.in-Some.is c.loop-literal.invariant))
       | else-not-is_true w ↦
           subst (IsOnlyFree K (take (i + 1) clause)) (sym w.free-is)
-          (IsOnlyFree-more_marked K clause i c.loop-literal.free c.loop-literal-test.true c.loop-literal.invariant (subst K c.opposite.ensures (c.is_true.ensures.0 w.if-not-is_true.false)))
+          (IsOnlyFree-more_false K clause i c.loop-literal.free c.loop-literal-test.true c.loop-literal.invariant (subst K c.opposite.ensures (c.is_true.ensures.0 w.if-not-is_true.false)))
     ]
 
 pub returns-in-None-free : goal.returns-in-None-free

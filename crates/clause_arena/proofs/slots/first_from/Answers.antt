@@ -1,6 +1,6 @@
 use Rattle.std.proofs.Common.{◌≡◌, ◌<◌, ◌≤◌, ◌^◌, ℕ, [], Any, All, get_or, sym, subst, ap, ◌∙◌, arith, refl, inl, inr}
 use Rattle.std.proofs.lemmas.Bool.{cases_eq}
-use Rattle.clause_arena.specs.State.{Held}
+use Rattle.clause_arena.specs.State.{HeldClause}
 use Rattle.clause_arena.specs.Slots.{contents, held_from}
 use Rattle.clause_arena.proofs.SlotLemmas.{named_slot, held_slot, All-from_member}
 use Rattle.clause_arena.proofs.Contents.{contents_at, length-contents, items_from_empty, items_from_full}
@@ -14,11 +14,11 @@ returns-then-not-is_empty c =
     let full = items_from_full slot.literals (sym c.is_empty.ensures ∙ c.if-not-is_empty.true) in
     let is : get_or (contents slots) place [] ≡ slot.literals.items = contents_at slots place c.index-slots-place.result c.loop-place-test.true in
     let held = named_slot (contents slots) place (subst (λ n. place < n) (sym (length-contents slots)) c.loop-place-test.true) (λ z. full (sym is ∙ z)) in
-    subst (λ (r : ℕ). (c.args.low ≤ r) × (r < 2 ^ 64) × Any (λ (h : Held). h.reference ≡ r) (held_from 0 (contents slots)) × All (λ (h : Held). h.reference < r → h.reference < c.args.low) (held_from 0 (contents slots))) (sym c.reference_of.ensures) (
+    subst (λ (r : ℕ). (c.args.low ≤ r) × (r < 2 ^ 64) × Any (λ (h : HeldClause). h.reference ≡ r) (held_from 0 (contents slots)) × All (λ (h : HeldClause). h.reference < r → h.reference < c.args.low) (held_from 0 (contents slots))) (sym c.reference_of.ensures) (
       c.loop-place.auto.place,
       omega arith,
       (held.0, _, held.1, held.2, refl),
-      All-from_member (λ (h : Held). h.reference < place → h.reference < c.args.low) (held_from 0 (contents slots)) c.loop-place.invariant,
+      All-from_member (λ (h : HeldClause). h.reference < place → h.reference < c.args.low) (held_from 0 (contents slots)) c.loop-place.invariant,
     )
 
 pub loop-place-preserved : goal.loop-place-preserved
@@ -33,7 +33,7 @@ loop-place-preserved c h m below =
     ]
 
 pub returns : goal.returns
-returns c = All-from_member (λ (h : Held). h.reference < c.args.low) (held_from 0 (contents c.args.slots.now)) (λ h m.
+returns c = All-from_member (λ (h : HeldClause). h.reference < c.args.low) (held_from 0 (contents c.args.slots.now)) (λ h m.
     let below = (held_slot (contents c.args.slots.now) h m).0 in
     let len = length-contents c.args.slots.now in
     c.loop-place.invariant h m (omega (arith, below, len)))

@@ -1,5 +1,5 @@
 use Rattle.std.proofs.Common.{◌≡◌, ℕ, length, take, Contains}
-use Rattle.rup_check.specs.Table.{HasMark}
+use Rattle.clause_meaning.specs.Marks.{HasMark}
 use Rattle.rup_check.proofs.marks.unmark.Given as goal
 
 abbrev pub invariant-loop-literal : goal.invariant-loop-literal

@@ -1,5 +1,6 @@
 use Rattle.rup_check.proofs.LiteralRange.{member_in_range}
-use Rattle.rup_check.proofs.Growth.{Rests-two_free}
+use Rattle.clause_meaning.proofs.Resting.{Rests-two_free}
+use Rattle.rup_check.specs.Marks.{IsMarked}
 use Rattle.rup_check.proofs.propagation.look_at.Goals as goal
 
 pub has-requires : goal.has-requires
@@ -8,4 +9,4 @@ has-requires c = record {
 }
 
 pub returns-in-Several-clause-says : goal.returns-in-Several-clause-says
-returns-in-Several-clause-says c = Rests-two_free c.args.marks.now.literals c.args.clause.now c.in-Several.ensures
+returns-in-Several-clause-says c = Rests-two_free (IsMarked c.args.marks.now.literals) c.args.clause.now c.in-Several.ensures

@@ -1,5 +1,5 @@
 use Rattle.std.proofs.Common.{sym, subst, ◌∙◌}
-use Rattle.cdcl_core.specs.Store.{Parts}
+use Rattle.cdcl_core.specs.Store.{StoreState}
 use Rattle.cdcl_core.specs.Shown.{parts_of}
 use Rattle.cdcl_core.specs.Changes.{Becomes, live_in}
 use Rattle.cdcl_core.proofs.StoreKept.{IsKept-renamed, Becomes-renamed}
@@ -16,7 +16,7 @@ invariant_of-self c =
 pub returns : goal.returns
 returns c =
     let renames = c.compact.ensures.exact in
-    let new : Parts = record (parts_of c.self.inside) { arena = c.compact.new.self } in
+    let new : StoreState = record (parts_of c.self.inside) { arena = c.compact.new.self } in
     record {
-      exact = subst (λ (p : Parts). Becomes p new (live_in p) p.next) c.self.view_is (Becomes-renamed renames.0 (parts_of c.self.inside) c.compact.new.self renames.1);
+      exact = subst (λ (p : StoreState). Becomes p new (live_in p) p.next) c.self.view_is (Becomes-renamed renames.0 (parts_of c.self.inside) c.compact.new.self renames.1);
     }

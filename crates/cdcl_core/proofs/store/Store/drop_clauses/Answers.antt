@@ -3,7 +3,7 @@ use Rattle.std.specs.List.{filter}
 use Rattle.std.proofs.lemmas.List.{take_at}
 use Rattle.cdcl_core.specs.declared.labels.Label.{Label}
 use Rattle.cdcl_core.specs.Labels.{is_taken, stays, Drops}
-use Rattle.cdcl_core.specs.Store.{Parts, IsKept}
+use Rattle.cdcl_core.specs.Store.{StoreState, IsKept}
 use Rattle.cdcl_core.specs.Shown.{parts_of}
 use Rattle.cdcl_core.specs.Changes.{Becomes, live_in}
 use Rattle.cdcl_core.proofs.StoreKept.{IsKept-dropped, Becomes-dropped}
@@ -30,8 +30,8 @@ returns c =
     let long : length marked ≡ c.self.inside.labels.len = omega (arith, c.drop_where.auto.labels, c.as_mut_slice.ensures.len, c.self.inside.labels.ok.0) in
     let now : c.drop_marked.new.labels.items ≡ filter stays marked = c.drop_marked.ensures ∙ ap (filter stays) (take_at marked _ _ long) in
     let drops = subst (λ (ls : List Label). Drops c.args.which ls c.self.inside.arena.live marked c.drop_where.new.arena.live) c.as_mut_slice.ensures.value c.drop_where.ensures.dropped in
-    let new : Parts = record { arena = c.drop_where.new.arena; labels = c.drop_marked.new.labels.items; trail = c.drop_where.new.trail; next = c.self.inside.next } in
+    let new : StoreState = record { arena = c.drop_where.new.arena; labels = c.drop_marked.new.labels.items; trail = c.drop_where.new.trail; next = c.self.inside.next } in
     let becomes = subst (λ (ls : List Label). Becomes parts (record { arena = c.drop_where.new.arena; labels = ls; trail = c.drop_where.new.trail; next = c.self.inside.next })
     (filter (λ entry. not (is_taken c.args.which entry)) (live_in parts)) parts.next) (sym now)
     (Becomes-dropped c.args.which parts c.drop_where.new.arena marked c.drop_where.new.trail drops c.drop_where.ensures.variables c.drop_where.ensures.only) in
-    record { exact = subst (λ (p : Parts). Becomes p new (filter (λ entry. not (is_taken c.args.which entry)) (live_in p)) p.next) c.self.view_is becomes }
+    record { exact = subst (λ (p : StoreState). Becomes p new (filter (λ entry. not (is_taken c.args.which entry)) (live_in p)) p.next) c.self.view_is becomes }

@@ -1,6 +1,6 @@
 use Rattle.std.proofs.Common.{◌≡◌, ◌-◌, ◌++◌, ◌∷◌, [], ℕ, None, map, set, sym, subst, ap, ◌∙◌, arith}
 use Rattle.std.proofs.lemmas.List.{length-set}
-use Rattle.cdcl_trail.specs.declared.entry.Entry.{Entry}
+use Rattle.cdcl_trail.specs.declared.trail_entry.TrailEntry.{TrailEntry}
 use Rattle.cdcl_trail.specs.Table.{Agrees}
 use Rattle.cdcl_trail.proofs.TableLemmas.{Agrees-pop}
 use Rattle.cdcl_trail.proofs.Entries.{popped_literals}
@@ -19,5 +19,5 @@ invariant_of-self-in-Some c =
       room = omega (arith, kept.room, c.in-Some.ensures.capacity);
       literal_room = omega (arith, kept.literal_room, c.pop-in-Some.ensures.capacity);
       literals = popped_literals new e c.self.inside.literals.items c.pop-in-Some.new.self.items (c.self.inside.literals.len - 1)
-          (kept.literals ∙ ap (map (λ (x : Entry). x.literal)) items) c.pop-in-Some.ensures.rest (omega (arith, c.self.inside.literals.ok.0));
+          (kept.literals ∙ ap (map (λ (x : TrailEntry). x.literal)) items) c.pop-in-Some.ensures.rest (omega (arith, c.self.inside.literals.ok.0));
     }

@@ -1,7 +1,7 @@
 use Rattle.std.proofs.Common.{◌≡◌, ◌++◌, ◌∷◌, [], List, Bool, false, length, get_or, sym, subst, ap, ◌∙◌, arith}
 use Rattle.std.proofs.lemmas.List.{length_push}
 use Rattle.clause_meaning.specs.Literals.{variable_of}
-use Rattle.cdcl_trail.specs.declared.entry.Entry.{Entry}
+use Rattle.cdcl_trail.specs.declared.trail_entry.TrailEntry.{TrailEntry}
 use Rattle.cdcl_trail.specs.Assigned.{Assigned, IsUnassigned}
 use Rattle.cdcl_trail.specs.Choices.{Choices}
 use Rattle.cdcl_trail.specs.State.{State, AreLast}
@@ -14,7 +14,7 @@ pub invariant_of-self : goal.invariant_of-self
 invariant_of-self c =
     let kept = c.self.invariant in
     let entries = c.self.inside.assigned.entries in
-    let entry : Entry = record { literal = c.args.literal; level = c.args.level; reason = c.args.reason } in
+    let entry : TrailEntry = record { literal = c.args.literal; level = c.args.level; reason = c.args.reason } in
     let level = ap (λ (s : State). s.level) c.self.view_is in
     let items : c.put.new.self.entries ≡ entries ++ entry ∷ [] = ap (λ (a : Assigned). a.entries) c.put.ensures.exact in
     let lasts = ap (λ (b : Choices). b.lasts) c.remember.ensures.exact in
@@ -27,7 +27,7 @@ invariant_of-self c =
       rise = subst (RiseFrom 0) (sym items) (RiseFrom-push 0 entries entry kept.rise (omega (arith, c.requires.from, level, kept.level)) (omega (arith, c.requires.to, level, kept.level)));
       level = sym (last_level-push 0 entries entry) ∙ ap (last_level 0) (sym items);
       settled = omega (arith, kept.settled, ap length items, length_push entries entry);
-      held = subst (λ (es : List Entry). AreLast es c.remember.new.self.lasts) (sym items)
+      held = subst (λ (es : List TrailEntry). AreLast es c.remember.new.self.lasts) (sym items)
           (subst (AreLast (entries ++ entry ∷ [])) (sym lasts)
           (AreLast-push entries c.self.inside.branching.lasts entry kept.held unassigned (ap (λ (ls : List Bool). get_or ls (variable_of c.args.literal) false) (sym lasts) ∙ c.remember.ensures.held)));
     }

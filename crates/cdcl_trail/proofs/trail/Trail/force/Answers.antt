@@ -1,6 +1,6 @@
 use Rattle.std.proofs.Common.{◌≡◌, ℕ, Some, All, length, drop, sym, subst, ap, ◌∙◌, arith}
 use Rattle.std.proofs.lemmas.List.{length_push}
-use Rattle.cdcl_trail.specs.declared.entry.Entry.{Entry}
+use Rattle.cdcl_trail.specs.declared.trail_entry.TrailEntry.{TrailEntry}
 use Rattle.cdcl_trail.specs.State.{State}
 use Rattle.cdcl_trail.specs.Fits.{Fits}
 use Rattle.cdcl_trail.proofs.Fitting.{Fits-entry}
@@ -15,4 +15,4 @@ returns-clause-fits c arena fits forced =
     let level = ap (λ (s : State). s.level) c.assign.view_is in
     subst (λ (s : State). Fits s arena) (sym added)
     (Fits-entry old arena c.assign.inside.level c.args.literal (Some c.args.reason) fits forced c.requires.unassigned (omega (arith, c.assign-2.ensures.few, count, variables))
-    (subst (λ (n : ℕ). All (λ (e : Entry). e.level ≡ n) (drop old.settled old.entries)) (sym level) fits.pending))
+    (subst (λ (n : ℕ). All (λ (e : TrailEntry). e.level ≡ n) (drop old.settled old.entries)) (sym level) fits.pending))

@@ -1,7 +1,7 @@
 use Rattle.std.proofs.Common.{subst}
 use Rattle.cdcl_trail.specs.Assigned.{IsTrueOn}
 use Rattle.cdcl_trail.specs.State.{State}
-use Rattle.cdcl_trail.specs.Looks.{Says}
+use Rattle.clause_meaning.specs.Resting.{Says}
 use Rattle.cdcl_trail.proofs.trail.Trail.look.Goals as goal
 
 pub returns : goal.returns

@@ -1,7 +1,7 @@
 use Rattle.std.proofs.Common.{Bool, Some, subst, sym}
 use Rattle.cdcl_trail.specs.Assigned.{IsTrueOn}
 use Rattle.cdcl_trail.specs.State.{State}
-use Rattle.cdcl_trail.specs.Fits.{Rests}
+use Rattle.clause_meaning.specs.Resting.{Rests}
 use Rattle.cdcl_trail.proofs.Passes.{PassHolds, PassHolds-grows, PassHolds-rests, Grows-trans}
 use Rattle.cdcl_trail.proofs.trail.Trail.pass_over.Goals as goal
 use Rattle.cdcl_trail.proofs.trail.Trail.pass_over.Goals.{in-Grows, in-Rests}

@@ -1,6 +1,6 @@
 use Rattle.std.proofs.Common.{length, refl, subst, sym, ap, arith}
 use Rattle.cdcl_trail.specs.Assigned.{IsTrueOn}
-use Rattle.cdcl_trail.specs.Fits.{Rests}
+use Rattle.clause_meaning.specs.Resting.{Rests}
 use Rattle.cdcl_trail.proofs.Entries.{unassigned_from_free}
 use Rattle.cdcl_trail.proofs.trail.Trail.visit_clause.Goals as goal
 

@@ -1,7 +1,8 @@
 use Rattle.std.proofs.Common.{◌≡◌, ◌<◌, ℕ, List, Bool, All, Contains, length, sym, subst, ap, ◌∙◌, arith}
 use Rattle.std.specs.Vec.{with_items}
 use Rattle.std.proofs.lemmas.List.{with_items_is}
-use Rattle.rup_check.specs.Table.{HasMark, Agrees}
+use Rattle.clause_meaning.specs.Marks.{HasMark}
+use Rattle.rup_check.specs.Table.{Agrees}
 use Rattle.rup_check.proofs.TableLemmas.{Agrees-none, listed_below}
 use Rattle.rup_check.proofs.marks.Marks.clear.Goals as goal
 

@@ -1,8 +1,8 @@
 use Rattle.std.proofs.Common.{◌<◌, false, length, sym, subst, ◌∙◌, arith}
 use Rattle.std.proofs.lemmas.List.{get_or_read}
 use Rattle.clause_meaning.specs.Literals.{variable_of}
+use Rattle.clause_meaning.proofs.LiteralLaws.{literal_below}
 use Rattle.rup_check.specs.Marks.{Marked, IsMarked}
-use Rattle.rup_check.proofs.LiteralRange.{literal_below}
 use Rattle.rup_check.proofs.marks.Marks.has.Goals as goal
 
 pub index-requires : goal.index-requires

@@ -1,8 +1,8 @@
 use Rattle.std.proofs.Common.{◌<◌, length, sym, subst, arith}
 use Rattle.clause_meaning.specs.Literals.{variable_of}
 use Rattle.rup_check.specs.Marks.{Marked}
+use Rattle.clause_meaning.proofs.MarkLemmas.{HasMark-below}
 use Rattle.rup_check.proofs.LiteralRange.{variable_below}
-use Rattle.rup_check.proofs.TableLemmas.{HasMark-below}
 use Rattle.rup_check.proofs.marks.Marks.literal.Goals as goal
 
 pub returns-clause-in_range : goal.returns-clause-in_range

@@ -1,9 +1,9 @@
 use Rattle.std.proofs.Common.{◌≡◌, ◌<◌, ◌++◌, ◌∷◌, [], ℕ, List, true, length, set, sym, subst, ◌∙◌, arith}
 use Rattle.std.proofs.lemmas.List.{length-set}
 use Rattle.clause_meaning.specs.Literals.{variable_of}
+use Rattle.clause_meaning.proofs.LiteralLaws.{literal_below}
 use Rattle.rup_check.specs.Marks.{Marked, IsMarked}
 use Rattle.rup_check.specs.Table.{Agrees}
-use Rattle.rup_check.proofs.LiteralRange.{literal_below}
 use Rattle.rup_check.proofs.TableLemmas.{Agrees-push, fewer}
 use Rattle.rup_check.proofs.marks.Marks.mark.Goals as goal
 

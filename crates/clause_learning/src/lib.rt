@@ -1,0 +1,12 @@
+//! What a clause that is false on a trail teaches, by the first unique implication point.
+#![tactic(auto)]
+
+mod analysis;
+mod falsity;
+mod lesson;
+mod resolving;
+#[cfg(test)]
+mod tests;
+
+pub use analysis::{Marks, analyse};
+pub use lesson::Lesson;
