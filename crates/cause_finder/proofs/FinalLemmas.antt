@@ -29,7 +29,9 @@ use Rattle.cause_finder.specs.declared.candidate.Candidate.{Candidate}
 use Rattle.cause_finder.specs.declared.support.Support.{Support}
 use Rattle.cause_finder.specs.Causes.{knowledge, AreConflictsOf, MatchesAt, IsLeastMember, HasLeastMembers, AreAnswers, HasMoreSupports}
 use Rattle.cause_finder.specs.Supports.{pair_of, AreSupports, HasMorePairs}
-use Rattle.join_eval.proofs.RowLemmas.{no_more}
+use Rattle.query_matching.specs.Hits.{IsBefore}
+use Rattle.query_matching.proofs.Ascending.{no_longer}
+use Rattle.query_matching.proofs.RowLemmas.{not_before_itself}
 use Rattle.cause_finder.proofs.SmallerLemmas.{images_in_order}
 use Rattle.cause_finder.proofs.SupportLemmas.{pairs_ascend}
 use Rattle.cq_terms.specs.Conflicts.{AreInConflict}
@@ -179,7 +181,7 @@ module _ (axioms : List Axiom) (facts : List Fact) (q : Query) (members : List M
   -- no more supports than are listed
   pub no_more_supports : (limit : ℕ) → length supports ≤ limit → HasMoreSupports (knowledge axioms facts) q limit → ⊥
   no_more_supports limit few more =
-      let within = no_more (map pair_of supports) more.supports more.ascending (pairs_ascend supports are.ascending) there in
+      let within = no_longer IsBefore not_before_itself more.supports (map pair_of supports) more.ascending there in
       omega (arith, within, length-map supports pair_of, few, more.longer)
     where
       there : (h : Hit) → Contains more.supports h → Contains (map pair_of supports) h

@@ -10,7 +10,7 @@ use Rattle.cq_terms.specs.Query.{Query}
 use Rattle.cq_meaning.proofs.Members.{Contains-nil}
 use Rattle.cq_meaning.proofs.Places.{some_inj}
 use Rattle.cq_steps.specs.declared.closure.Member.{Member}
-use Rattle.join_eval.specs.Hits.{IsHit, AreHits, HasMoreHits}
+use Rattle.query_matching.specs.Hits.{IsHit, AreHits, HasMoreHits}
 use Rattle.cause_finder.specs.declared.support.Support.{Support}
 use Rattle.cause_finder.specs.Causes.{MatchesAt, IsLeastMember}
 use Rattle.cause_finder.specs.Supports.{support_cmp, pair_of, Has, AddsOnly, AreTooMany, AreGathered, AreSupports, HasMorePairs}
@@ -70,9 +70,9 @@ module _ (facts : List Fact) (members : List Member) where
 
     pub too_many_gathered : (limit : ℕ) → HasMoreHits facts m.query limit ⊎ AreTooMany limit new → HasMorePairs facts members limit
     too_many_gathered limit (inl more) = record {
-      pairs = more.hits;
+      pairs = more.items;
       each = λ k d l. (place, (m, at, more.each k d l));
-      ascending = more.ascending;
+      ascending = more.apart;
       longer = more.longer;
     }
     too_many_gathered limit (inr more) = record {

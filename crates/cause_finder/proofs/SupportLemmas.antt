@@ -14,7 +14,7 @@ use Rattle.std.proofs.lemmas.List.{get_or-map, length-map}
 use Rattle.std.proofs.lemmas.List.Elements.{All-contains, All-from_recursion}
 use Rattle.cq_terms.specs.declared.hits.Hit.{Hit}
 use Rattle.cq_meaning.proofs.Members.{Contains-head, Contains-later, Contains-cases, Contains-nil}
-use Rattle.join_eval.specs.Hits.{IsBefore}
+use Rattle.query_matching.specs.Hits.{IsBefore}
 use Rattle.cause_finder.specs.declared.support.Support.{Support}
 use Rattle.cause_finder.specs.Supports.{support_cmp, pair_of, support_by, Has, AddsOnly}
 

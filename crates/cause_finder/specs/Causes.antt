@@ -12,7 +12,7 @@ use Rattle.cq_meaning.specs.Candidates.{AreCandidates, AreCauses}
 use Rattle.cq_meaning.specs.Entailment.{HasImage}
 use Rattle.cq_meaning.specs.Rewriting.{IsSupport}
 use Rattle.cq_steps.specs.declared.closure.Member.{Member}
-use Rattle.join_eval.specs.Hits.{IsBefore}
+use Rattle.query_matching.specs.Hits.{IsBefore}
 use Rattle.cause_finder.specs.declared.candidate.Candidate.{Candidate}
 
 -- the knowledge base of these axioms and facts, without a priority

@@ -7,7 +7,7 @@ use Rattle.std.specs.List.Sorted.{IsStrictlySortedBy}
 use Rattle.cq_terms.specs.declared.facts.Fact.{Fact}
 use Rattle.cq_terms.specs.declared.hits.Hit.{Hit}
 use Rattle.cq_steps.specs.declared.closure.Member.{Member}
-use Rattle.join_eval.specs.Hits.{IsBefore}
+use Rattle.query_matching.specs.Hits.{IsBefore}
 use Rattle.cause_finder.specs.declared.support.Support.{Support}
 use Rattle.cause_finder.specs.Causes.{MatchesAt, IsLeastMember}
 

@@ -4,7 +4,7 @@ ghost use Rattle.std.specs.Prelude.{◌≡◌, ◌<◌, ◌≤◌, ◌≢◌, �
 ghost use Rattle.std.specs.BTreeSet.{insert_key};
 ghost use Rattle.std.specs.List.Sorted.{IsStrictlySortedBy};
 ghost use Rattle.cq_terms.specs.Query.{Query};
-ghost use Rattle.join_eval.specs.Hits.{AreHits, HasMoreHits, IsHit};
+ghost use Rattle.query_matching.specs.Hits.{AreHits, HasMoreHits, IsHit};
 ghost use Rattle.cq_steps.specs.declared.closure.Member.{Member};
 ghost use Rattle.cause_finder.specs.Supports.{AddsOnly, AreSupports, AreTooMany, Has, HasMorePairs, support_cmp};
 

@@ -15,7 +15,7 @@ use Rattle.cq_terms.specs.Lists.{IsAscending}
 use Rattle.cq_meaning.proofs.Members.{Contains-head, Contains-later, Contains-cases, Contains-nil}
 use Rattle.cq_meaning.proofs.Listed.{append_cases}
 use Rattle.cq_meaning.proofs.Ascending.{All-of}
-use Rattle.join_eval.proofs.Ascending.{AllPairs-head, AllPairs-tail}
+use Rattle.query_matching.proofs.Ascending.{AllPairs-head, AllPairs-tail}
 use Rattle.conflict_finder.specs.declared.seen.Source.{Source}
 use Rattle.conflict_finder.specs.Seen.{pair_cmp, HasKey, is_single, clash_of, clashes_of}
 use Rattle.conflict_finder.proofs.Joins.{numbers_same, numbers_apart}

@@ -18,7 +18,7 @@ use Rattle.cq_meaning.proofs.Listed.{append_cases}
 use Rattle.cq_meaning.proofs.Ascending.{All-of}
 use Rattle.cq_steps.specs.declared.closure.Member.{Member}
 use Rattle.cq_steps.specs.Closing.{ClosingListIsClosure}
-use Rattle.join_eval.proofs.Ascending.{AllPairs-head, AllPairs-tail}
+use Rattle.query_matching.proofs.Ascending.{AllPairs-head, AllPairs-tail}
 use Rattle.conflict_finder.specs.declared.seen.Source.{Source}
 use Rattle.conflict_finder.specs.Finding.{kb_of, AreClosures, Shows, IsShownFirst, IsConflict, HasMore, HasMoreConflicts}
 use Rattle.conflict_finder.specs.Images.{IsShort}

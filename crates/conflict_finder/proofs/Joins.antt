@@ -23,8 +23,8 @@ use Rattle.cq_meaning.proofs.Members.{Contains-head, Contains-later, Contains-ca
 use Rattle.cq_meaning.proofs.Places.{some_inj}
 use Rattle.cq_meaning.proofs.Supports.{image_has}
 use Rattle.cq_meaning.proofs.Ascending.{All-of, ascending_same}
-use Rattle.join_eval.specs.Hits.{IsHit, IsBefore, AreHits, HasMoreHits}
-use Rattle.join_eval.proofs.Ascending.{AllPairs-head, AllPairs-tail}
+use Rattle.query_matching.specs.Hits.{IsHit, IsBefore, AreHits, HasMoreHits}
+use Rattle.query_matching.proofs.Ascending.{AllPairs-head, AllPairs-tail}
 use Rattle.conflict_finder.specs.Finding.{HasMore}
 use Rattle.conflict_finder.specs.Images.{ArePart, AreKeys, IsShort}
 use Rattle.conflict_finder.specs.Seen.{numbers_of, IsWanted}
@@ -286,10 +286,10 @@ module _ (facts : List Fact) (distinct : AreDistinct facts) (numbers : List ℕ)
 
   pub more_sets : (limit : ℕ) → HasMoreHits part q limit → HasMore (λ set. All (Contains numbers) set × HasImage facts q [] set) limit
   more_sets limit more = record {
-    sets = map (λ (h : Hit). numbers_at numbers h.image) more.hits;
-    each = each_set more.hits more.each;
-    distinct = sets_apart more.hits more.each more.ascending;
-    longer = omega (arith, length-map more.hits (λ (h : Hit). numbers_at numbers h.image), more.longer);
+    sets = map (λ (h : Hit). numbers_at numbers h.image) more.items;
+    each = each_set more.items more.each;
+    distinct = sets_apart more.items more.each more.apart;
+    longer = omega (arith, length-map more.items (λ (h : Hit). numbers_at numbers h.image), more.longer);
   }
 
 -- ---- what a test of one fact answers
@@ -308,7 +308,7 @@ alone_of_hits f q (hit ∷ hits) s all b e = (
 )
 
 pub alone_of_more : (f : Fact) (q : Query) → IsShort q → HasMoreHits (f ∷ []) q 1 → IsTrue true ↔ HasImage (f ∷ []) q [] (0 ∷ [])
-alone_of_more f q s more = ((λ t. alone_hits f q more.hits s more.each (let k = more.longer in omega (arith, k))), (λ h. refl))
+alone_of_more f q s more = ((λ t. alone_hits f q more.items s more.each (let k = more.longer in omega (arith, k))), (λ h. refl))
 
 -- ---- places in a part
 

@@ -13,7 +13,7 @@ use Rattle.cq_meaning.proofs.Members.{Contains-head, Contains-later, Contains-sl
 use Rattle.cq_meaning.proofs.Places.{some_inj, AllZip-get, AllZip-get_back}
 use Rattle.cq_meaning.proofs.Supports.{image_has, Match-image}
 use Rattle.cq_meaning.proofs.Ascending.{All-of}
-use Rattle.join_eval.proofs.Ascending.{AllPairs-head, AllPairs-tail}
+use Rattle.query_matching.proofs.Ascending.{AllPairs-head, AllPairs-tail}
 use Rattle.conflict_finder.specs.Images.{ArePart}
 
 -- ---- lists side by side

@@ -3,7 +3,7 @@ use Rattle.std.proofs.Common.{◌≡◌, ◌≢◌, ◌≤◌, List, [], ◌∷�
 use Rattle.std.proofs.lemmas.List.Elements.{All-contains}
 use Rattle.cq_meaning.proofs.Members.{Contains-head, Contains-later}
 use Rattle.cq_meaning.proofs.Listed.{removed}
-use Rattle.join_eval.proofs.Ascending.{AllPairs-head, AllPairs-tail}
+use Rattle.query_matching.proofs.Ascending.{AllPairs-head, AllPairs-tail}
 
 pub not_longer : {X : Type 0} (xs ys : List X) → AllPairs (λ x y. x ≢ y) xs → ((x : X) → Contains xs x → Contains ys x) → length xs ≤ length ys
 not_longer [] ys apart inside = omega arith

@@ -9,7 +9,7 @@ use Rattle.cq_meaning.proofs.Members.{Contains-slice_get, slice_get-Contains}
 use Rattle.cq_meaning.proofs.Places.{some_inj}
 use Rattle.cq_meaning.proofs.Ascending.{All-of}
 use Rattle.cq_steps.specs.declared.closure.Member.{Member}
-use Rattle.join_eval.proofs.Ascending.{AllPairs-head, AllPairs-tail}
+use Rattle.query_matching.proofs.Ascending.{AllPairs-head, AllPairs-tail}
 use Rattle.conflict_finder.specs.declared.seen.Source.{Source}
 use Rattle.conflict_finder.specs.Finding.{Shows, IsShownFirst, HasMore}
 use Rattle.conflict_finder.specs.Images.{IsSeenOrImage}

@@ -1,10 +1,2 @@
-pub mod Images
-pub mod Ascending
-pub mod BindingLemmas
-pub mod ExtensionLemmas
-pub mod RowLemmas
 pub mod CandidateLemmas
-pub mod ImageLemmas
-pub mod SoFar
-pub mod Recorded
 pub mod Final

@@ -1,22 +1,10 @@
--- Rows: pairs of a tuple and an image, as the search keeps them.
-use Rattle.std.specs.Prelude.{ℕ, ◌<◌, ◌↔◌, List, length, Contains}
-use Rattle.std.specs.Ordering.{nat_cmp, then_cmp, on}
-use Rattle.std.specs.declared.cmp.Ordering.{Ordering}
-use Rattle.std.specs.Cmp.Lexicographic.{slice_cmp}
+-- When a search has found too many rows.
+use Rattle.std.specs.Prelude.{ℕ, ◌<◌, List, length}
 use Rattle.std.specs.List.Sorted.{IsStrictlySortedBy}
-use Rattle.join_eval.specs.declared.row.Row.{Row}
-use Rattle.cq_terms.specs.Lists.{IsAscending}
-
--- rows go by tuple, and then by image
-abbrev pub row_cmp : Row → Row → Ordering
-row_cmp = then_cmp (on (λ (r : Row). r.tuple) (slice_cmp nat_cmp)) (on (λ (r : Row). r.image) (slice_cmp nat_cmp))
+use Rattle.query_matching.specs.declared.row.Row.{Row}
+use Rattle.query_matching.specs.Rows.{row_cmp}
 
 -- there are more rows than the limit, in order
 pub record AreTooMany (limit : ℕ) (rows : List Row) : Type 0 where
   pub longer : limit < length rows
   pub ordered : IsStrictlySortedBy row_cmp rows
-
--- the ascending list of these numbers
-pub record IsImage (numbers image : List ℕ) : Type 0 where
-  pub ascending : IsAscending image
-  pub exact : (i : ℕ) → Contains image i ↔ Contains numbers i

@@ -1,18 +1,16 @@
 //! The facts that an atom may be.
 
-ghost use Rattle.std.specs.Prelude.{◌≡◌, ℕ, ◌<◌, ◌⊎◌, length, All, Contains, slice_get, Some};
-ghost use Rattle.cq_terms.specs.declared.facts.Fact.{Fact};
-ghost use Rattle.join_eval.specs.Bindings.{Agrees, AtomIs};
+ghost use Rattle.std.specs.Prelude.{◌≡◌, ◌<◌, ◌⊎◌, length, All, Contains};
+ghost use Rattle.query_matching.specs.Extensions.{HasEach};
 
-use crate::bindings::{Binding, known};
-use cq_terms::{Kind, QAtom, Term};
+use cq_terms::{Kind, QAtom};
 use fact_index::Index;
+use query_matching::{Binding, known};
 
 /// Lends a list that has the number of each fact that the atom may be: the shortest that the index has for the places that
 /// are known.
 pub(crate) fn candidates<'a>(index: &'a Index, bindings: &[Binding], atom: QAtom) -> &'a [u32]
-    ensures complete { (v : ℕ → ℕ) (n : ℕ) (f : Fact) → Agrees bindings.now v
-        → slice_get index.now n ≡ Some f → AtomIs v atom f → Contains result.now n }
+    ensures complete { HasEach index.now bindings.now atom (Contains result.now) }
     ensures named { All (λ n. n < length index.now) result.now }
 {
     match atom {

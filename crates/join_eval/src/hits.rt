@@ -1,16 +1,14 @@
 //! The hits of a query.
 
-ghost use Rattle.std.specs.Prelude.{◌≡◌, ◌≤◌, length, map, IfOk, OnOk};
-ghost use Rattle.std.specs.List.Sorted.{IsStrictlySortedBy};
+ghost use Rattle.std.specs.Prelude.{◌≡◌, ◌≤◌, length, IfOk, OnOk};
 ghost use Rattle.cq_terms.specs.Knowledge.{AreDistinct};
-ghost use Rattle.join_eval.specs.Rows.{row_cmp};
-ghost use Rattle.join_eval.specs.Hits.{AreHits, HasMoreHits};
+ghost use Rattle.query_matching.specs.Hits.{AreHits, HasMoreHits};
 
 use crate::JoinRefusal;
-use crate::row::Row;
 use crate::search::{Question, State, extend};
-use cq_terms::{Cq, Hit, NoMemory};
+use cq_terms::{Cq, Hit};
 use fact_index::Index;
+use query_matching::{Walk, hits_of};
 use std::alloc::Global;
 use std::collections::BTreeSet;
 
@@ -36,8 +34,7 @@ pub fn matches(
         limit,
     };
     let mut state = State {
-        bindings: Vec::new(alloc),
-        path: Vec::new(alloc),
+        walk: Walk::new(alloc),
         found: BTreeSet::new(alloc),
     };
     distinct(index);
@@ -51,17 +48,4 @@ fn distinct(index: &Index)
     ensures exact { AreDistinct index.now }
 {
     let _count = index.len();
-}
-
-/// The rows as hits, in order.
-fn hits_of(alloc: Global, found: BTreeSet<Row>) -> Result<Vec<Hit>, NoMemory>
-    ensures exact { IfOk result (λ hits. hits.items ≡ map (λ r. record { tuple = r.tuple; image = r.image }) found.keys) }
-    ensures ordered { OnOk result (IsStrictlySortedBy row_cmp found.keys) }
-{
-    let mut hits = Vec::with_capacity(alloc, found.len())?;
-    for row in found {
-        let Row { tuple, image } = row;
-        hits.push(Hit { tuple, image })?;
-    }
-    Ok(hits)
 }

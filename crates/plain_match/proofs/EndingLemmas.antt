@@ -7,13 +7,14 @@ use Rattle.cq_terms.specs.declared.facts.Fact.{Fact}
 use Rattle.cq_terms.specs.declared.query.QAtom.{QAtom}
 use Rattle.cq_terms.specs.Query.{StandsIn}
 use Rattle.cq_meaning.proofs.Members.{Contains-head}
-use Rattle.plain_match.specs.declared.bindings.Binding.{Binding}
-use Rattle.plain_match.specs.declared.bindings.Walk.{Walk}
-use Rattle.plain_match.specs.declared.row.Row.{Row}
-use Rattle.plain_match.specs.Bindings.{AreConsistent, AtomIs, Binds}
-use Rattle.plain_match.specs.Rows.{IsImage}
-use Rattle.plain_match.specs.Extensions.{HasEnding, HasEndingBy, CanEnd, IsSameWalk}
-use Rattle.plain_match.proofs.ExtensionLemmas.{by_first, first_of, step_back, step_on, no_step}
+use Rattle.query_matching.specs.declared.bindings.Binding.{Binding}
+use Rattle.query_matching.specs.declared.bindings.Walk.{Walk}
+use Rattle.query_matching.specs.declared.row.Row.{Row}
+use Rattle.query_matching.specs.Bindings.{AreConsistent, AtomIs, Binds}
+use Rattle.cq_terms.specs.Lists.{IsSorted}
+use Rattle.query_matching.specs.Extensions.{IsSameWalk}
+use Rattle.plain_match.specs.Endings.{HasEnding, HasEndingBy, CanEnd}
+use Rattle.query_matching.proofs.ExtensionLemmas.{by_first, first_of, step_back, step_on, no_step}
 
 -- an image as a row without a head
 abbrev pub bare : List ℕ → Row
@@ -34,9 +35,9 @@ module _ (facts : List Fact) (image : List ℕ) where
       agrees = can.consistent.1;
       fits = tt;
       tuple = tt;
-      image = subst (λ (xs : List ℕ). IsImage xs image) (sym (append-nil walk.path.items)) (record {
+      image = subst (λ (xs : List ℕ). IsSorted xs image) (sym (append-nil walk.path.items)) (record {
         ascending = can.ascending;
-        exact = λ i. (
+        same = λ i. (
           (λ there. All-contains (Contains walk.path.items) image i met there),
           (λ there. All-contains (Contains image) walk.path.items i can.inside there),
         );
@@ -47,8 +48,8 @@ module _ (facts : List Fact) (image : List ℕ) where
   pub end_to : (walk : Walk) → HasEnding facts image [] walk.bindings.items walk.path.items → All (Contains walk.path.items) image
   end_to walk (n ∷ numbers, c) = absurd c.fits
   end_to walk ([], c) =
-      let is : IsImage walk.path.items image = subst (λ (xs : List ℕ). IsImage xs image) (append-nil walk.path.items) c.image in
-      λ k d lt. (is.exact (get_or image k d)).0 (Contains-get_or image k d lt)
+      let is : IsSorted walk.path.items image = subst (λ (xs : List ℕ). IsSorted xs image) (append-nil walk.path.items) c.image in
+      λ k d lt. (is.same (get_or image k d)).0 (Contains-get_or image k d lt)
 
   -- ---- the next atom becomes one fact
 
@@ -123,6 +124,6 @@ module _ (facts : List Fact) (image : List ℕ) where
           let first = first_of facts [] a more old.bindings.items old.path.items (bare image) (subst (λ (xs : List QAtom). HasEnding facts image xs old.bindings.items old.path.items) split h) in
           let n = first.0 in
           let ending = first.1 in
-          let there : Contains image n = (ending.1.image.exact n).1 (Contains-append_right old.path.items (n ∷ ending.0) n (Contains-head n ending.0)) in
+          let there : Contains image n = (ending.1.image.same n).1 (Contains-append_right old.path.items (n ∷ ending.0) n (Contains-head n ending.0)) in
           let at : get_or image there.0 0 ≡ n = get_or_default image there.0 0 n there.1 ∙ there.2 in
           so.none there.0 (omega (arith, past, there.1)) (subst (λ (j : ℕ). HasEndingBy facts image a more j old.bindings.items old.path.items) (sym at) ending)

@@ -8,19 +8,14 @@ use Rattle.cq_terms.specs.declared.query.QAtom.{QAtom}
 use Rattle.cq_terms.specs.Knowledge.{AreDistinct}
 use Rattle.cq_terms.specs.Query.{Query}
 use Rattle.cq_meaning.specs.Entailment.{HasImage}
-use Rattle.plain_match.specs.declared.bindings.Binding.{Binding}
-use Rattle.plain_match.specs.Bindings.{Agrees, AreConsistent, HeadIs, Binds, IsNone}
-use Rattle.plain_match.specs.Extensions.{NumberFits, HasEnding}
-use Rattle.plain_match.proofs.Ascending.{no_longer}
+use Rattle.query_matching.specs.declared.bindings.Binding.{Binding}
+use Rattle.query_matching.specs.Bindings.{HeadIs, Binds}
+use Rattle.query_matching.specs.Extensions.{NumberFits}
+use Rattle.plain_match.specs.Endings.{HasEnding, NoVariable}
+use Rattle.query_matching.proofs.Ascending.{no_longer}
 use Rattle.plain_match.proofs.HeadLemmas.{AllZip-length}
-use Rattle.plain_match.proofs.Images.{hit_of_row, row_of_hit}
-
--- nothing bound is consistent
-pub nothing_agrees : (bindings : List Binding) → bindings ≡ [] → (v : ℕ → ℕ) → Agrees bindings v
-nothing_agrees bindings none v = subst (λ (xs : List Binding). Agrees xs v) (sym none) (λ k d lt. absurd (omega arith))
-
-pub nothing_bound : (bindings : List Binding) → bindings ≡ [] → AreConsistent bindings
-nothing_bound bindings none = ((λ _. 0), nothing_agrees bindings none (λ _. 0))
+use Rattle.query_matching.proofs.Images.{hit_of_row, row_of_hit}
+use Rattle.query_matching.proofs.WholeQuery.{nothing_agrees}
 
 module _ (facts : List Fact) (q : Query) (tuple image : List ℕ) where
   -- the numbers of an image are those of facts
@@ -34,19 +29,19 @@ module _ (facts : List Fact) (q : Query) (tuple image : List ℕ) where
     pub image_short : HasImage facts q tuple image → length image ≤ length q.body
     image_short h =
         let row = row_of_hit facts distinct q (record { tuple = tuple; image = image }) h in
-        let within = no_longer image row.0 h.ascending (λ i there. (row.1.image.exact i).0 there) in
+        let within = no_longer (λ i j. i < j) (λ i less. omega (arith, less)) image row.0 h.ascending (λ i there. (row.1.image.same i).0 there) in
         let same = AllZip-length (NumberFits facts row.1.valuation) q.body row.0 row.1.fits in
         omega (arith, within, same)
 
     module _ (head : List Term) (body : List QAtom) (old new : List Binding) (path : List ℕ) (head_is : head ≡ q.head) (body_is : body ≡ q.body) (none : old ≡ []) (no_path : path ≡ []) where
       -- a head that can't be the tuple has no match
-      pub no_head : Binds (λ v. HeadIs v head tuple) IsNone old new false → HasImage facts q tuple image → ⊥
+      pub no_head : Binds (λ v. HeadIs v head tuple) NoVariable old new false → HasImage facts q tuple image → ⊥
       no_head binds h =
           let row = row_of_hit facts distinct q (record { tuple = tuple; image = image }) h in
           let v = row.1.valuation in
           binds.never refl v (nothing_agrees old none v) (subst (λ (xs : List Term). HeadIs v xs tuple) (sym head_is) row.1.tuple)
 
-      pub ending_is_image : Binds (λ v. HeadIs v head tuple) IsNone old new true → HasEnding facts image body new path → HasImage facts q tuple image
+      pub ending_is_image : Binds (λ v. HeadIs v head tuple) NoVariable old new true → HasEnding facts image body new path → HasImage facts q tuple image
       ending_is_image binds h =
           let end : HasEnding facts image q.body new [] = subst (λ (xs : List ℕ). HasEnding facts image q.body new xs) no_path (subst (λ (xs : List QAtom). HasEnding facts image xs new path) body_is h) in
           let v = end.1.valuation in
@@ -54,7 +49,7 @@ module _ (facts : List Fact) (q : Query) (tuple image : List ℕ) where
           hit_of_row facts distinct q (record { tuple = tuple; image = image })
           (end.0, record { valuation = v; agrees = nothing_agrees [] refl v; fits = end.1.fits; tuple = tuple_is; image = end.1.image })
 
-      pub image_has_ending : Binds (λ v. HeadIs v head tuple) IsNone old new true → HasImage facts q tuple image → HasEnding facts image body new path
+      pub image_has_ending : Binds (λ v. HeadIs v head tuple) NoVariable old new true → HasImage facts q tuple image → HasEnding facts image body new path
       image_has_ending binds h =
           let row = row_of_hit facts distinct q (record { tuple = tuple; image = image }) h in
           let v = row.1.valuation in

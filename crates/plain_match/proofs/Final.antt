@@ -1,56 +1,16 @@
--- The rows that the searches find are the hits of all the queries.
+-- The rows that the searches find are the hits of all the queries: one query after another.
 use Rattle.std.proofs.Common.{◌≡◌, ℕ, ◌+◌, ◌<◌, ◌≤◌, List, [], length, get_or, map, Contains, ◌⊎◌, inl, inr, sym, ◌∙◌, subst, arith}
 use Rattle.std.specs.List.Sorted.{IsStrictlySortedBy}
 use Rattle.std.proofs.lemmas.Bool.{cases_lt}
 use Rattle.std.proofs.lemmas.List.{get_or_default}
 use Rattle.cq_terms.specs.declared.facts.Fact.{Fact}
-use Rattle.cq_terms.specs.declared.query.Term.{Term}
-use Rattle.cq_terms.specs.declared.query.QAtom.{QAtom}
-use Rattle.cq_terms.specs.Knowledge.{AreDistinct}
-use Rattle.cq_terms.specs.Query.{Query, IsSafe}
+use Rattle.cq_terms.specs.Query.{Query}
 use Rattle.cq_meaning.proofs.Members.{Contains-nil}
-use Rattle.plain_match.specs.declared.bindings.Binding.{Binding}
-use Rattle.plain_match.specs.declared.bindings.Walk.{Walk}
-use Rattle.plain_match.specs.declared.row.Row.{Row}
-use Rattle.plain_match.specs.Extensions.{Extends, CanExtend, AddsOnly, HasAll}
-use Rattle.plain_match.specs.Hits.{IsRowOf, IsHitOfAny, AreHitsOfAll}
-use Rattle.plain_match.specs.Rows.{row_cmp}
-use Rattle.plain_match.proofs.ExtensionLemmas.{covered_first}
-use Rattle.plain_match.proofs.ExactlyLemmas.{nothing_bound}
-use Rattle.plain_match.proofs.Images.{hit_of_row, row_of_hit}
-use Rattle.plain_match.proofs.RowLemmas.{hit_of, row_of, hits_ascend, hit_there, all_hits}
-use Rattle.plain_match.proofs.SoFar.{AddsOnly-weaker}
-
--- the search may begin
-pub first_can : (q : Query) (head : List Term) (body : List QAtom) (walk : Walk) → IsSafe q → head ≡ q.head → body ≡ q.body → walk.bindings.items ≡ [] → CanExtend head body walk
-first_can q head body walk safe head_is body_is none = record {
-  consistent = nothing_bound walk.bindings.items none;
-  covered = rw (none, head_is, body_is) (covered_first q.body q.head safe.head);
-}
-
-module _ (facts : List Fact) (distinct : AreDistinct facts) (q : Query) (head : List Term) (body : List QAtom) (bindings : List Binding) (path : List ℕ) (head_is : head ≡ q.head) (body_is : body ≡ q.body) (none : bindings ≡ []) (no_path : path ≡ []) where
-  row_from : (row : Row) → Extends facts head body bindings path row → IsRowOf facts q row
-  row_from row h = hit_of_row facts distinct q row
-      (subst (λ (xs : List Term). Extends facts xs q.body [] [] row) head_is
-      (subst (λ (xs : List QAtom). Extends facts head xs [] [] row) body_is
-      (subst (λ (xs : List Binding). Extends facts head body xs [] row) none
-      (subst (λ (xs : List ℕ). Extends facts head body bindings xs row) no_path h))))
-
-  row_to : (row : Row) → IsRowOf facts q row → Extends facts head body bindings path row
-  row_to row is =
-      subst (λ (xs : List ℕ). Extends facts head body bindings xs row) (sym no_path)
-      (subst (λ (xs : List Binding). Extends facts head body xs [] row) (sym none)
-      (subst (λ (xs : List QAtom). Extends facts head xs [] [] row) (sym body_is)
-      (subst (λ (xs : List Term). Extends facts xs q.body [] [] row) (sym head_is) (row_of_hit facts distinct q row is))))
-
-  -- what the search adds are rows of the query
-  pub adds_rows : (old new : List Row) → AddsOnly (Extends facts head body bindings path) old new → AddsOnly (IsRowOf facts q) old new
-  adds_rows old new adds = AddsOnly-weaker (Extends facts head body bindings path) (IsRowOf facts q) old new row_from adds
-
-  pub has_rows : (new : List Row) → HasAll (Extends facts head body bindings path) new → HasAll (IsRowOf facts q) new
-  has_rows new all row is = all row (row_to row is)
-
--- ---- one query after another
+use Rattle.query_matching.specs.declared.row.Row.{Row}
+use Rattle.query_matching.specs.Extensions.{AddsOnly, HasAll}
+use Rattle.query_matching.specs.Rows.{row_cmp, hit_of, IsRowOf}
+use Rattle.query_matching.proofs.RowLemmas.{row_of, hits_ascend, hit_there, all_hits}
+use Rattle.plain_match.specs.Hits.{IsHitOfAny, AreHitsOfAll}
 
 -- the rows are those of the first queries
 pub record AreRowsOfFirst (facts : List Fact) (members : List Query) (i : ℕ) (rows : List Row) : Type 0 where
@@ -86,7 +46,7 @@ module _ (facts : List Fact) (members : List Query) where
   -- the rows of all queries, in order, are the hits
   pub rows_all : (i : ℕ) (rows : List Row) → length members ≤ i → i ≤ length members → AreRowsOfFirst facts members i rows → IsStrictlySortedBy row_cmp rows → AreHitsOfAll facts members (map hit_of rows)
   rows_all i rows past within are ordered = record {
-    right = all_hits (IsHitOfAny facts members) rows (λ r there. let h = are.right r there in (h.0, h.1, omega (arith, h.2, within), h.3, h.4));
+    each = all_hits (IsHitOfAny facts members) rows (λ r there. let h = are.right r there in (h.0, h.1, omega (arith, h.2, within), h.3, h.4));
     complete = λ hit is. hit_there rows hit (are.complete is.0 is.1 (row_of hit) (omega (arith, is.2, past)) is.3 is.4);
     ascending = hits_ascend rows ordered;
   }

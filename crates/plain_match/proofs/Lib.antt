@@ -1,14 +1,6 @@
-pub mod Images
-pub mod Ascending
-pub mod BindingLemmas
-pub mod ExtensionLemmas
-pub mod RowLemmas
-pub mod ImageLemmas
-pub mod Recorded
-pub mod EntryLemmas
+pub mod KeyedFactLemmas
 pub mod HeadLemmas
 pub mod EndingLemmas
 pub mod ExactlyLemmas
 pub mod CandidateLemmas
-pub mod SoFar
 pub mod Final

@@ -1,5 +1,3 @@
 pub mod Hits
-pub mod Bindings
-pub mod Rows
-pub mod Extensions
+pub mod Endings
 pub mod Places

@@ -1,23 +1,21 @@
 //! The facts of the table that an atom may become.
 
-ghost use Rattle.std.specs.Prelude.{◌≡◌, ℕ, ◌<◌, ◌⊎◌, length, All, slice_get, Some};
-ghost use Rattle.cq_terms.specs.declared.facts.Fact.{Fact};
-ghost use Rattle.plain_match.specs.Bindings.{Agrees, AtomIs};
+ghost use Rattle.std.specs.Prelude.{◌≡◌, ◌<◌, ◌⊎◌, length, All};
+ghost use Rattle.query_matching.specs.Extensions.{HasEach};
 ghost use Rattle.plain_match.specs.Places.{HasNumber};
 
-use crate::bindings::{Binding, known};
 use crate::facts::PlainFacts;
-use crate::places::{Entry, Side};
+use crate::places::{KeyedFact, Side};
 use cq_terms::QAtom;
+use query_matching::{Binding, known};
 
-/// Lends entries of facts, among them each that the atom may become: those of its predicate, and of a place that is known.
+/// Lends numbers of facts, among them each that the atom may become: those of its predicate, and of a place that is known.
 pub(crate) fn candidates<'a>(
     facts: &'a PlainFacts,
     bindings: &[Binding],
     atom: QAtom,
-) -> &'a [Entry]
-    ensures complete { (v : ℕ → ℕ) (n : ℕ) (f : Fact) → Agrees bindings.now v
-        → slice_get facts.now n ≡ Some f → AtomIs v atom f → HasNumber result.now n }
+) -> &'a [KeyedFact]
+    ensures complete { HasEach facts.now bindings.now atom (HasNumber result.now) }
     ensures named { All (λ e. e.number < length facts.now) result.now }
 {
     match atom {
@@ -30,7 +28,7 @@ pub(crate) fn candidates<'a>(
 }
 
 /// The shorter of two lists.
-fn shorter<'a>(left: &'a [Entry], right: &'a [Entry]) -> &'a [Entry]
+fn shorter<'a>(left: &'a [KeyedFact], right: &'a [KeyedFact]) -> &'a [KeyedFact]
     ensures one { (result.now ≡ left.now) ⊎ (result.now ≡ right.now) }
 {
     if right.len() < left.len() {

@@ -3,13 +3,14 @@
 ghost use Rattle.std.specs.Prelude.{◌≡◌, ◌↔◌, ℕ, ◌<◌, ◌∷◌, [], length, All, Contains, IfOk, OnOk, IsTrue};
 ghost use Rattle.cq_meaning.specs.Entailment.{HasImage};
 ghost use Rattle.cq_terms.specs.Lists.{IsAscending};
-ghost use Rattle.plain_match.specs.Bindings.{AreConsistent, HeadIs, Binds, IsNone};
-ghost use Rattle.plain_match.specs.Extensions.{HasEnding, HasEndingBy, CanEnd, IsSameWalk};
+ghost use Rattle.query_matching.specs.Bindings.{AreConsistent, HeadIs, Binds};
+ghost use Rattle.query_matching.specs.Extensions.{IsSameWalk};
+ghost use Rattle.plain_match.specs.Endings.{HasEnding, HasEndingBy, CanEnd, NoVariable};
 
-use crate::bindings::{Binding, Walk, bind_atom, bind_term};
 use crate::facts::PlainFacts;
 use crate::image::are_all_met;
 use cq_terms::{Cq, NoMemory, QAtom, Term};
+use query_matching::{Binding, Walk, bind_atom, bind_term};
 use std::alloc::Global;
 
 /// Whether the query has a match with exactly that tuple and image: its head becomes the tuple, and the ascending numbers of
@@ -27,10 +28,7 @@ pub fn matches_with(
     if image.len() > query.body().len() || !are_fact_numbers(image, count) {
         return Ok(false);
     }
-    let mut walk = Walk {
-        bindings: Vec::new(alloc),
-        path: Vec::new(alloc),
-    };
+    let mut walk = Walk::new(alloc);
     if !bind_head(&mut walk.bindings, query.head(), tuple)? {
         return Ok(false);
     }
@@ -56,7 +54,7 @@ fn are_fact_numbers(numbers: &[u32], facts: usize) -> bool
 fn bind_head(bindings: &mut Vec<Binding>, head: &[Term], tuple: &[u32]) -> Result<bool, NoMemory>
     requires consistent { AreConsistent bindings.old.items }
 
-    ensures exact { IfOk result (Binds (λ v. HeadIs v head.now tuple.now) IsNone bindings.old.items bindings.new.items) }
+    ensures exact { IfOk result (Binds (λ v. HeadIs v head.now tuple.now) NoVariable bindings.old.items bindings.new.items) }
 {
     if head.len() != tuple.len() {
         return Ok(false);

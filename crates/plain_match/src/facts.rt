@@ -2,9 +2,9 @@
 
 ghost use Rattle.std.specs.Prelude.{◌≡◌, ◌<◌, ℕ, length, slice_get, Some, IfOk, IfSome, All};
 ghost use Rattle.cq_terms.specs.Knowledge.{AreDistinct};
-ghost use Rattle.plain_match.specs.Places.{StandsAt, AreEntries, HasNumber};
+ghost use Rattle.plain_match.specs.Places.{StandsAt, AreKeyedFacts, HasNumber};
 
-use crate::places::{Entry, Side, Sorted, entries};
+use crate::places::{KeyedFact, Side, SortedFacts, keyed_facts};
 use cq_terms::{Fact, NoMemory};
 use std::alloc::Global;
 use std::marker::Model;
@@ -13,9 +13,9 @@ use std::marker::Model;
 #[derive(Debug, Drop)]
 pub struct PlainFacts {
     facts: Vec<Fact>,
-    members: Sorted,
-    from: Sorted,
-    to: Sorted,
+    members: SortedFacts,
+    from: SortedFacts,
+    to: SortedFacts,
 }
 
 impl Model for PlainFacts {
@@ -23,18 +23,18 @@ impl Model for PlainFacts {
     ghost use Rattle.cq_terms.specs.declared.facts.Fact.{Fact};
     ghost use Rattle.cq_terms.specs.Knowledge.{AreDistinct};
     ghost use Rattle.plain_match.specs.declared.places.Side.TheVariants as side;
-    ghost use Rattle.plain_match.specs.Places.{AreEntries};
+    ghost use Rattle.plain_match.specs.Places.{AreKeyedFacts};
 
     ghost Value = { List Fact };
 
     ghost view = { λ a. a.facts.items };
 
-    ghost invariant = { λ a. AreDistinct a.facts.items × AreEntries side.Member a.facts.items a.members
-        × AreEntries side.From a.facts.items a.from × AreEntries side.To a.facts.items a.to };
+    ghost invariant = { λ a. AreDistinct a.facts.items × AreKeyedFacts side.Member a.facts.items a.members
+        × AreKeyedFacts side.From a.facts.items a.from × AreKeyedFacts side.To a.facts.items a.to };
 }
 
 impl PlainFacts {
-    /// Sorts the facts of a table, which are distinct. It keeps one or two entries for each. `NoMemory` may come at any time,
+    /// Sorts the facts of a table, which are distinct. It keeps the number of each once or twice. `NoMemory` may come at any time,
     /// and comes where there are more than 2^32 facts.
     pub fn build(alloc: Global, facts: &[Fact]) -> Result<PlainFacts, NoMemory>
         requires distinct { AreDistinct facts.now }
@@ -70,8 +70,8 @@ impl PlainFacts {
         self.facts[number as usize]
     }
 
-    /// Lends entries of facts, among them each that has the predicate and, where one is given, the individual on that side.
-    pub(crate) fn at(&self, side: Side, pred: u32, individual: Option<u32>) -> &[Entry]
+    /// Lends numbers of facts, among them each that has the predicate and, where one is given, the individual on that side.
+    pub(crate) fn at(&self, side: Side, pred: u32, individual: Option<u32>) -> &[KeyedFact]
         ensures all { (n : ℕ) (f : Fact) (ind : ℕ) → slice_get self.now n ≡ Some f → StandsAt side f pred ind
             → IfSome individual (λ c. ind ≡ c) → HasNumber result.now n }
         ensures named { All (λ e. e.number < length self.now) result.now }
@@ -80,8 +80,8 @@ impl PlainFacts {
     }
 
     /// Lends the list of a side.
-    fn list(&self, side: Side) -> &Sorted
-        ensures entries { AreEntries side self.now result.now }
+    fn list(&self, side: Side) -> &SortedFacts
+        ensures exact { AreKeyedFacts side self.now result.now }
     {
         match side {
             Side::Member => &self.members,
@@ -91,9 +91,9 @@ impl PlainFacts {
     }
 }
 
-/// The entries of one side, sorted.
-fn sorted(alloc: Global, side: Side, facts: &[Fact]) -> Result<Sorted, NoMemory>
-    ensures exact { IfOk result (λ list. AreEntries side facts.now list) }
+/// The numbers of the facts with one side, sorted.
+fn sorted(alloc: Global, side: Side, facts: &[Fact]) -> Result<SortedFacts, NoMemory>
+    ensures exact { IfOk result (λ list. AreKeyedFacts side facts.now list) }
 {
-    Ok(Sorted::new(entries(alloc, side, facts)?))
+    Ok(SortedFacts::new(keyed_facts(alloc, side, facts)?))
 }

@@ -1,17 +1,15 @@
 //! All hits of a list of queries.
 
-ghost use Rattle.std.specs.Prelude.{◌≡◌, [], length, map, IfOk, OnOk};
-ghost use Rattle.std.specs.List.Sorted.{IsStrictlySortedBy};
+ghost use Rattle.std.specs.Prelude.{IfOk};
 ghost use Rattle.cq_terms.specs.Knowledge.{AreDistinct};
-ghost use Rattle.plain_match.specs.Rows.{row_cmp};
-ghost use Rattle.plain_match.specs.Extensions.{AddsOnly, HasAll};
-ghost use Rattle.plain_match.specs.Hits.{IsRowOf, AreHitsOfAll};
+ghost use Rattle.query_matching.specs.Extensions.{AddsOnly, HasAll};
+ghost use Rattle.query_matching.specs.Rows.{IsRowOf};
+ghost use Rattle.plain_match.specs.Hits.{AreHitsOfAll};
 
-use crate::bindings::Walk;
 use crate::facts::PlainFacts;
-use crate::row::Row;
 use crate::search::{Question, State, extend};
 use cq_terms::{Cq, Hit, NoMemory};
+use query_matching::{Row, Walk, hits_of};
 use std::alloc::Global;
 use std::collections::BTreeSet;
 
@@ -42,10 +40,7 @@ fn with_rows(
         head: query.head(),
     };
     let mut state = State {
-        walk: Walk {
-            bindings: Vec::new(alloc),
-            path: Vec::new(alloc),
-        },
+        walk: Walk::new(alloc),
         found,
     };
     distinct(facts);
@@ -59,17 +54,4 @@ fn distinct(facts: &PlainFacts)
     ensures exact { AreDistinct facts.now }
 {
     let _count = facts.len();
-}
-
-/// The rows as hits, in order.
-fn hits_of(alloc: Global, found: BTreeSet<Row>) -> Result<Vec<Hit>, NoMemory>
-    ensures exact { IfOk result (λ hits. hits.items ≡ map (λ r. record { tuple = r.tuple; image = r.image }) found.keys) }
-    ensures ordered { OnOk result (IsStrictlySortedBy row_cmp found.keys) }
-{
-    let mut hits = Vec::with_capacity(alloc, found.len())?;
-    for row in found {
-        let Row { tuple, image } = row;
-        hits.push(Hit { tuple, image })?;
-    }
-    Ok(hits)
 }

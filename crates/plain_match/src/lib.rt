@@ -2,14 +2,12 @@
 //! match with a given tuple and image.
 #![tactic(auto)]
 
-mod bindings;
 mod candidates;
 mod exactly;
 mod facts;
 mod hits;
 mod image;
 mod places;
-mod row;
 mod search;
 #[cfg(test)]
 mod tests;

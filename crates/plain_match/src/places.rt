@@ -2,13 +2,13 @@
 
 ghost use Rattle.std.specs.Prelude.{◌≡◌, ◌≤◌, ◌<◌, ◌^◌, ℕ, length, Contains, IfOk, IfSome, Some};
 ghost use Rattle.std.specs.List.Sorted.{IsPermutation};
-ghost use Rattle.plain_match.specs.Places.{key_of, StandsAt, IsUnder, AreEntries, IsCutBelow, IsCutAbove};
+ghost use Rattle.plain_match.specs.Places.{key_of, StandsAt, IsUnder, AreKeyedFacts, IsCutBelow, IsCutAbove};
 
 use cq_terms::{Fact, NoMemory};
 use std::alloc::Global;
 use std::marker::Model;
 
-/// Which individual of a fact its entry stands under.
+/// Which individual of a fact it is sorted by.
 #[derive(Clone, Copy, Debug, PartialEq, Eq)]
 pub(crate) enum Side {
     /// That of a concept.
@@ -21,7 +21,7 @@ pub(crate) enum Side {
 
 /// The number of a fact under its place.
 #[derive(Clone, Copy, Debug)]
-pub(crate) struct Entry {
+pub(crate) struct KeyedFact {
     /// The place as one number.
     pub key: u64,
     /// The number of the fact.
@@ -48,81 +48,85 @@ fn place(side: Side, fact: Fact) -> Option<u64>
 }
 
 /// Lists the facts that have that side. Past 2^32 facts, which have no numbers, memory is said to have run out.
-pub(crate) fn entries(alloc: Global, side: Side, facts: &[Fact]) -> Result<Vec<Entry>, NoMemory>
-    ensures exact { IfOk result (λ entries. AreEntries side facts.now entries.items) }
+pub(crate) fn keyed_facts(
+    alloc: Global,
+    side: Side,
+    facts: &[Fact],
+) -> Result<Vec<KeyedFact>, NoMemory>
+    ensures exact { IfOk result (λ list. AreKeyedFacts side facts.now list.items) }
 {
-    let mut entries = Vec::new(alloc);
+    let mut list = Vec::new(alloc);
     for index in 0..facts.len() {
         let Ok(number) = u32::try_from(index) else {
             return Err(NoMemory);
         };
         if let Some(key) = place(side, facts[index]) {
-            entries.push(Entry { key, number })?;
+            list.push(KeyedFact { key, number })?;
         }
     }
-    Ok(entries)
+    Ok(list)
 }
 
-/// Entries in ascending order of their keys.
+/// Fact numbers in ascending order of their keys.
 #[derive(Debug, Drop)]
-pub(crate) struct Sorted {
-    entries: Vec<Entry>,
+pub(crate) struct SortedFacts {
+    list: Vec<KeyedFact>,
 }
 
-impl Model for Sorted {
+impl Model for SortedFacts {
     ghost use Rattle.std.specs.Prelude.{List};
     ghost use Rattle.std.specs.List.Sorted.{IsNonDecreasingBy};
-    ghost use Rattle.plain_match.specs.declared.places.Entry.{Entry};
+    ghost use Rattle.plain_match.specs.declared.places.KeyedFact.{KeyedFact};
 
-    ghost Value = { List Entry };
+    ghost Value = { List KeyedFact };
 
-    ghost view = { λ a. a.entries.items };
+    ghost view = { λ a. a.list.items };
 
-    ghost invariant = { λ a. IsNonDecreasingBy (λ e. e.key) a.entries.items };
+    ghost invariant = { λ a. IsNonDecreasingBy (λ e. e.key) a.list.items };
 }
 
-impl Sorted {
-    /// Sorts the entries.
-    pub fn new(mut entries: Vec<Entry>) -> Sorted
-        ensures exact { IsPermutation entries.items result }
+impl SortedFacts {
+    /// Sorts them.
+    pub fn new(mut list: Vec<KeyedFact>) -> SortedFacts
+        ensures exact { IsPermutation list.items result }
     {
-        entries.sort_unstable_by_key(|entry| entry.key);
-        Sorted { entries }
+        list.sort_unstable_by_key(|fact| fact.key);
+        SortedFacts { list }
     }
 
-    /// Lends the entries with keys from `low` to `high`, both among them.
-    pub fn between(&self, low: u64, high: u64) -> &[Entry]
+    /// Lends those with keys from `low` to `high`, both among them.
+    pub fn between(&self, low: u64, high: u64) -> &[KeyedFact]
         requires ordered { low ≤ high }
 
-        ensures all { (e : Entry) → Contains self.now e → low ≤ e.key → e.key ≤ high → Contains result.now e }
-        ensures own { (e : Entry) → Contains result.now e → Contains self.now e }
+        ensures all { (e : KeyedFact) → Contains self.now e → low ≤ e.key → e.key ≤ high → Contains result.now e }
+        ensures own { (e : KeyedFact) → Contains result.now e → Contains self.now e }
     {
         let from = self.below(low);
         let to = self.not_above(high);
-        &self.entries.as_slice()[from..to]
+        &self.list.as_slice()[from..to]
     }
 
-    /// How many entries have a key below the number: these come first.
+    /// How many have a key below the number: these come first.
     fn below(&self, key: u64) -> usize
         ensures exact { IsCutBelow self.now key result }
         ensures within { result ≤ length self.now }
     {
-        self.entries.partition_point(|entry| entry.key < key)
+        self.list.partition_point(|fact| fact.key < key)
     }
 
-    /// How many entries have no key above the number: these come first.
+    /// How many have no key above the number: these come first.
     fn not_above(&self, key: u64) -> usize
         ensures exact { IsCutAbove self.now key result }
         ensures within { result ≤ length self.now }
     {
-        self.entries.partition_point(|entry| entry.key <= key)
+        self.list.partition_point(|fact| fact.key <= key)
     }
 
-    /// Lends entries, among them each under the predicate and, where one is given, the individual.
-    pub fn under(&self, pred: u32, individual: Option<u32>) -> &[Entry]
+    /// Lends fact numbers, among them each under the predicate and, where one is given, the individual.
+    pub fn under(&self, pred: u32, individual: Option<u32>) -> &[KeyedFact]
         ensures all { (n ind : ℕ) → ind < 2 ^ 32 → IfSome individual (λ c. ind ≡ c) → IsUnder pred ind n self.now
             → IsUnder pred ind n result.now }
-        ensures own { (e : Entry) → Contains result.now e → Contains self.now e }
+        ensures own { (e : KeyedFact) → Contains result.now e → Contains self.now e }
     {
         match individual {
             Some(ind) => self.between(key(pred, ind), key(pred, ind)),

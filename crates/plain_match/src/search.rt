@@ -1,14 +1,12 @@
 //! The search for all matches of a query: atom by atom, each becomes one fact of the table after another.
 
 ghost use Rattle.std.specs.Prelude.{◌≡◌, ℕ, ◌<◌, ◌∷◌, [], length, OnOk};
-ghost use Rattle.plain_match.specs.Extensions.{GoesOn, GoesOnBy, CanExtend, IsSameWalk, AddsOnly, HasAll};
+ghost use Rattle.query_matching.specs.Extensions.{GoesOn, GoesOnBy, CanExtend, IsSameWalk, AddsOnly, HasAll};
 
-use crate::bindings::{Walk, bind_atom};
 use crate::candidates::candidates;
 use crate::facts::PlainFacts;
-use crate::image::{image_of, tuple_of};
-use crate::row::Row;
 use cq_terms::{NoMemory, QAtom, Term};
+use query_matching::{Row, Walk, add_row, bind_atom};
 use std::collections::BTreeSet;
 
 /// The table, and the head whose tuples are asked for.
@@ -39,15 +37,15 @@ pub(crate) fn extend(question: &Question, rest: &[QAtom], state: &mut State) -> 
     let Some((atom, more)) = rest.split_first() else {
         return record(question, state);
     };
-    for entry in candidates(question.facts, &state.walk.bindings, *atom) {
-        take(question, *atom, more, entry.number, state)?;
+    for fact in candidates(question.facts, &state.walk.bindings, *atom) {
+        extend_by(question, *atom, more, fact.number, state)?;
     }
     Ok(())
 }
 
 /// Finds those in which the atom becomes the fact of the number.
 #[cycle(search)]
-fn take(
+fn extend_by(
     question: &Question,
     atom: QAtom,
     more: &[QAtom],
@@ -85,9 +83,5 @@ fn record(question: &Question, state: &mut State) -> Result<(), NoMemory>
         state.new.found.keys) }
     ensures same { OnOk result (IsSameWalk state.old.walk state.new.walk) }
 {
-    let alloc = *state.walk.path.allocator();
-    let tuple = tuple_of(alloc, question.head, &state.walk.bindings)?;
-    let image = image_of(alloc, &state.walk.path)?;
-    state.found.insert(Row { tuple, image })?;
-    Ok(())
+    add_row(question.head, &state.walk, &mut state.found)
 }

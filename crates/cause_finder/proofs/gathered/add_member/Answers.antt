@@ -1,6 +1,6 @@
 use Rattle.std.proofs.Common.{◌≡◌, ap, sym, subst, Err, arith, inr}
 use Rattle.std.proofs.lemmas.Result.{err_from_is_err_and}
-use Rattle.join_eval.specs.Hits.{IsHit, AreHits}
+use Rattle.query_matching.specs.Hits.{IsHit, AreHits}
 use Rattle.cause_finder.specs.declared.refusal.CauseRefusal.TheVariants.{TooManySupports}
 use Rattle.cause_finder.proofs.GatherLemmas.{adds_none, adds_hit, found_more, found_all}
 use Rattle.cause_finder.proofs.gathered.add_member.Goals as goal

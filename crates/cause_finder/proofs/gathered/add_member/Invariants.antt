@@ -1,6 +1,6 @@
 use Rattle.std.proofs.Common.{◌<◌, ◌≤◌, ℕ, length, get_or}
 use Rattle.cq_terms.specs.declared.hits.Hit.{Hit}
-use Rattle.join_eval.specs.Hits.{IsHit}
+use Rattle.query_matching.specs.Hits.{IsHit}
 use Rattle.cause_finder.specs.Supports.{AddsOnly, Has}
 use Rattle.cause_finder.proofs.gathered.add_member.Given as goal
 

@@ -1,7 +1,7 @@
 use Rattle.std.proofs.Common.{◌≡◌, ◌+◌, ℕ, List, ap, subst, slice_get, Some, arith, Err, length}
 use Rattle.std.proofs.lemmas.Result.{err_from_is_err_and}
 use Rattle.cq_steps.specs.declared.closure.Member.{Member}
-use Rattle.join_eval.specs.Hits.{IsHit}
+use Rattle.query_matching.specs.Hits.{IsHit}
 use Rattle.cause_finder.specs.declared.refusal.CauseRefusal.TheVariants.{TooManySupports}
 use Rattle.cause_finder.specs.Supports.{AddsOnly}
 use Rattle.cause_finder.proofs.PartLemmas.{slice_get_at}

@@ -2,9 +2,9 @@ use Rattle.std.proofs.Common.{◌↔◌, ap, sym, subst, List, ℕ, All, Contain
 use Rattle.std.proofs.lemmas.List.Elements.{Contains-get_or}
 use Rattle.cq_terms.specs.declared.query.QAtom.{QAtom}
 use Rattle.cq_terms.specs.Query.{StandsIn}
-use Rattle.plain_match.specs.declared.bindings.Walk.{Walk}
-use Rattle.plain_match.specs.Bindings.{AtomIs, Binds}
-use Rattle.plain_match.specs.Extensions.{HasEnding, CanEnd}
+use Rattle.query_matching.specs.declared.bindings.Walk.{Walk}
+use Rattle.query_matching.specs.Bindings.{AtomIs, Binds}
+use Rattle.plain_match.specs.Endings.{HasEnding, CanEnd}
 use Rattle.plain_match.proofs.EndingLemmas.{none_left, end_from, end_to, can_on, can_same, none_more, none_at_all}
 use Rattle.plain_match.proofs.exactly.+ending.Goals as goal
 

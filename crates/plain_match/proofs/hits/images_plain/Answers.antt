@@ -2,9 +2,8 @@ use Rattle.std.proofs.Common.{◌≡◌, List, map, sym, subst}
 use Rattle.std.specs.List.Sorted.{IsStrictlySortedBy}
 use Rattle.cq_terms.specs.declared.hits.Hit.{Hit}
 use Rattle.plain_match.specs.Hits.{AreHitsOfAll}
-use Rattle.plain_match.specs.Rows.{row_cmp}
-use Rattle.plain_match.proofs.BindingLemmas.{ok_with}
-use Rattle.plain_match.proofs.RowLemmas.{hit_of}
+use Rattle.query_matching.specs.Rows.{row_cmp, hit_of}
+use Rattle.query_matching.proofs.BindingLemmas.{ok_with}
 use Rattle.plain_match.proofs.Final.{rows_more, rows_all}
 use Rattle.plain_match.proofs.hits.images_plain.Goals as goal
 

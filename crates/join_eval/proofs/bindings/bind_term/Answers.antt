@@ -1,4 +1,0 @@
-use Rattle.join_eval.proofs.bindings.bind_term.Goals as goal
-
-pub returns-in-Var : goal.returns-in-Var
-returns-in-Var c = rw c.in-Var.is (record { exact = c.bind_variable.ensures.exact })

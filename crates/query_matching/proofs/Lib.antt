@@ -1,0 +1,9 @@
+pub mod Ascending
+pub mod BindingLemmas
+pub mod TupleLemmas
+pub mod ExtensionLemmas
+pub mod RowLemmas
+pub mod Images
+pub mod Recorded
+pub mod SoFar
+pub mod WholeQuery

@@ -1,0 +1,4 @@
+pub mod Bindings
+pub mod Extensions
+pub mod Rows
+pub mod Hits
