@@ -13,7 +13,7 @@ use Rattle.refutation_confirmer.specs.Tables.{AreIndividualsWithin, IsIndividual
 use Rattle.refutation_confirmer.specs.Truth.{IsTrueReport}
 use Rattle.refutation_confirmer.specs.declared.confirmed.Confirmed.{Confirmed}
 use Rattle.refutation_confirmer.specs.declared.confirmed.Confirmed.TheVariants.{Yes, No}
-use Rattle.refutation_confirmer.specs.declared.rule.Rule.{Rule}
+use Rattle.report_rules.specs.declared.rule.Rule.{Rule}
 use Rattle.cqapri_cli.specs.Built.{AreAnswered, IsAnswered}
 use Rattle.cqapri_cli.specs.Files.{FileNames, Task, AreWords}
 use Rattle.cqapri_cli.specs.Inputs.{Held, IsOfFiles}

@@ -20,7 +20,7 @@ use Rattle.cqapri_cli.specs.ReportLines.{report_lines}
 use Rattle.cqapri_cli.specs.Verdicts.{WritesVerdict, WritesFirstOfVerdict}
 use Rattle.refutation_confirmer.specs.declared.confirmed.Confirmed.{Confirmed}
 use Rattle.refutation_confirmer.specs.declared.confirmed.Confirmed.TheVariants.{Yes, No}
-use Rattle.refutation_confirmer.specs.declared.rule.Rule.{Rule}
+use Rattle.report_rules.specs.declared.rule.Rule.{Rule}
 use Rattle.cqapri_cli.specs.declared.refusal.Refusal.{Refusal}
 use Rattle.cqapri_cli.specs.declared.refusal.Refusal.TheVariants as refusal
 use Rattle.cqapri_cli.specs.declared.report_refusal.ReportRefusal.{ReportRefusal}

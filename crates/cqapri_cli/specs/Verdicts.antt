@@ -6,7 +6,7 @@ use Rattle.cq_terms.specs.Knowledge.{Knowledge}
 use Rattle.cq_terms.specs.Query.{Query}
 use Rattle.cq_terms.specs.declared.names.Vocab.{Vocab}
 use Rattle.refutation_confirmer.specs.Acceptance.{IsAccepted, IsFirstBroken}
-use Rattle.refutation_confirmer.specs.RuleWords.{rule_word}
+use Rattle.report_rules.specs.RuleWords.{rule_word}
 use Rattle.refutation_confirmer.specs.Truth.{IsTrueReport}
 use Rattle.refutation_confirmer.specs.declared.confirmed.Confirmed.{Confirmed}
 use Rattle.refutation_confirmer.specs.declared.confirmed.Confirmed.TheVariants.{Yes, No}

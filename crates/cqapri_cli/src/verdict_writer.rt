@@ -9,7 +9,8 @@ ghost use Rattle.cqapri_cli.specs.Verdicts.{verdict_text};
 use crate::pieces::write_pieces;
 use cq_io::{Failed, Sink};
 use itoa::Buffer;
-use refutation_confirmer::{Confirmed, Rule};
+use refutation_confirmer::Confirmed;
+use report_rules::Rule;
 
 /// Writes the verdict on a report as one line, piece by piece, and flushes. It takes no memory: a number is printed into a
 /// fixed array.

@@ -1,5 +1,5 @@
 -- A core for given facts: what the present facts give, how it grows, and that it ends as one.
-use Rattle.std.proofs.Common.{◌≡◌, ◌<◌, ◌≤◌, ◌+◌, ◌⊎◌, inl, inr, ◌↔◌, ℕ, zero, suc, Bool, List, [], ◌∷◌, ◌++◌, length, take, get_or, refl, sym, ap, ◌∙◌, subst, arith, Contains, All, length-append}
+use Rattle.std.proofs.Common.{◌≡◌, ◌<◌, ◌≤◌, ◌+◌, ◌⊎◌, inl, inr, ◌↔◌, ℕ, suc, Bool, List, [], ◌∷◌, ◌++◌, length, take, get_or, refl, sym, ap, ◌∙◌, subst, arith, Contains, All, length-append}
 use Rattle.std.proofs.lemmas.Bool.{cases_Bool, true≢false}
 use Rattle.std.proofs.lemmas.List.{take_more, take_all, take-append-le}
 use Rattle.std.proofs.lemmas.List.Elements.{All-contains, Contains-get_or, Contains-append_left, Contains-append_right, Contains-append_cases, Contains-push, Contains-push_cases}
@@ -10,37 +10,34 @@ use Rattle.cq_terms.specs.Conflicts.{ConflictGraph, AreInConflict}
 use Rattle.cq_meaning.proofs.Ascending.{All-of}
 use Rattle.cq_meaning.proofs.Members.{Contains-nil}
 use Rattle.priority_graph.specs.Priority.{Priority, Conflict, IsPriority, IsOver}
-use Rattle.priority_graph.specs.Cores.{IsBlocked, IsCore, ConflictsWith}
+use Rattle.priority_graph.specs.Cores.{IsBlocked, ConflictsWith}
 use Rattle.priority_graph.specs.Split.{has}
 use Rattle.priority_graph.proofs.CountLemmas.{distinct_length}
-use Rattle.priority_graph.proofs.DirectLemmas.{Conflict-sym, conflict_below}
+use Rattle.priority_graph.proofs.DirectLemmas.{Conflict-sym, conflict_below, conflict_of, conflict_over}
 use Rattle.priority_graph.proofs.SplitLemmas.{has_true, has_there, has_not}
-use Rattle.repair_encoder.specs.BaseClauses.{Blocks, IsBaseClause}
-use Rattle.repair_encoder.specs.Components.{IsClosedUnder, IsReachedIn}
-use Rattle.repair_encoder.specs.Laws.{IsChosenWithin}
-use Rattle.repair_encoder.proofs.LawLemmas.{chosen_from_satisfied, satisfied_from_chosen}
+use Rattle.repair_clauses.specs.BaseClauses.{Blocks, IsBaseClause}
+use Rattle.repair_clauses.specs.Components.{IsClosedUnder}
+use Rattle.repair_clauses.specs.Laws.{IsChosenWithin}
+use Rattle.repair_clauses.proofs.LawLemmas.{of_table, reached_inside, chosen_from_satisfied, satisfied_from_chosen}
 use Rattle.explainer.specs.declared.growth.Growing.{Growing}
 use Rattle.explainer.specs.Growth.{IsSettled, AreSettled, Drops}
 use Rattle.cq_terms.specs.Lists.{IsSorted}
 use Rattle.explainer.specs.Wanted.{IsReachedFrom, SatisfiesComponents, IsCoreFor}
-use Rattle.explainer.proofs.GrowthLemmas.{wider, conflict_of, conflict_from}
+use Rattle.explainer.proofs.GrowthLemmas.{wider}
 
 -- ---- components
 
 -- components are closed under conflict
 pub reached_closed : (p : Priority) (g : ConflictGraph) (facts : List ℕ) → IsOver p g → IsClosedUnder (Conflict p) (IsReachedFrom g facts)
-reached_closed p g facts over i j (f, m, (n, r)) c = (f, m, (suc n, (i, r, conflict_from p g i j over c)))
+reached_closed p g facts over i j (f, m, (n, r)) c = (f, m, (suc n, (i, r, conflict_over p g i j over c)))
 
 pub reached_itself : (g : ConflictGraph) (facts : List ℕ) (i : ℕ) → Contains facts i → IsReachedFrom g facts i
 reached_itself g facts i m = (i, m, (0, refl))
 
 -- facts of the table reach facts of the table
 pub reached_known : (p : Priority) (g : ConflictGraph) (facts : List ℕ) → IsPriority p → IsOver p g → All (λ i. i < g.facts) facts → (i : ℕ) → IsReachedFrom g facts i → i < g.facts
-reached_known p g facts h over known i (f, m, (n, r)) = go n i r
-  where
-    go : (n i : ℕ) → IsReachedIn g n f i → i < g.facts
-    go zero i e = subst (λ (j : ℕ). j < g.facts) e (All-contains (λ j. j < g.facts) facts f known m)
-    go (suc n) i (l, q, c) = subst (λ (m : ℕ). i < m) over.facts (conflict_below p h l i (conflict_of p g l i over c))
+reached_known p g facts h over known i (f, m, (n, r)) =
+    reached_inside g f (λ i. i < g.facts) (λ k j l c. subst (λ (b : ℕ). j < b) over.facts (conflict_below p h k j (conflict_of p g k j over c))) (All-contains (λ j. j < g.facts) facts f known m) n i r
 
 -- ---- the present facts and the core that grows
 
@@ -78,7 +75,7 @@ module _ (p : Priority) (g : ConflictGraph) (present start lost : List ℕ) (ask
   lost_known = All-of (λ i. i < g.facts) lost (λ i m. All-contains (λ i. i < g.facts) (start ++ lost) i asked.known (Contains-append_right start lost i m))
 
   chosen : IsChosenWithin p Scope (has present)
-  chosen = chosen_from_satisfied p asked.priority Scope linked_closed (has present) asked.satisfied
+  chosen = chosen_from_satisfied p (of_table p asked.priority) Scope linked_closed (has present) asked.satisfied
 
   of_start : (i : ℕ) → Contains start i → Scope i
   of_start i m = reached_itself g (start ++ lost) i (Contains-append_left start lost i m)
@@ -239,7 +236,7 @@ pub scope_covers : (p : Priority) (g : ConflictGraph) → IsPriority p → IsOve
     → (v : ℕ → Bool) → SatisfiesAll v (IsBaseClause p (Contains scope)) → (present : List ℕ) → ((i : ℕ) → Contains scope i → has present i ≡ v i)
     → (facts : List ℕ) → All (Contains scope) facts → SatisfiesComponents p g present facts
 scope_covers p g h over scope closed v sat present same facts inside =
-    satisfied_from_chosen p h (IsReachedFrom g facts) (reached_closed p g facts over) (has present) (record {
+    satisfied_from_chosen p (IsReachedFrom g facts) (has present) (record {
       own = λ i r t o. wide.own i (there i r) (sym (same i (there i r)) ∙ t) o;
       pairs = λ i j r q t u c. wide.pairs i j (there i r) (there j q) (sym (same i (there i r)) ∙ t) (sym (same j (there j q)) ∙ u) c;
       outside = λ i r f o. let b = wide.outside i (there i r) (sym (same i (there i r)) ∙ f) o in
@@ -247,11 +244,7 @@ scope_covers p g h over scope closed v sat present same facts inside =
     })
   where
     wide : IsChosenWithin p (Contains scope) v
-    wide = chosen_from_satisfied p h (Contains scope) (λ i j m c. closed i j m (conflict_from p g i j over c)) v sat
-
-    reached_in : (f : ℕ) → Contains scope f → (n i : ℕ) → IsReachedIn g n f i → Contains scope i
-    reached_in f m zero i e = subst (Contains scope) e m
-    reached_in f m (suc n) i (l, q, c) = closed l i (reached_in f m n l q) c
+    wide = chosen_from_satisfied p (of_table p h) (Contains scope) (λ i j m c. closed i j m (conflict_over p g i j over c)) v sat
 
     there : (i : ℕ) → IsReachedFrom g facts i → Contains scope i
-    there i (f, m, (n, r)) = reached_in f (All-contains (Contains scope) facts f inside m) n i r
+    there i (f, m, (n, r)) = reached_inside g f (Contains scope) closed (All-contains (Contains scope) facts f inside m) n i r

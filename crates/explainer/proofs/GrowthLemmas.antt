@@ -1,13 +1,13 @@
 -- A core that grows: one more dropped fact, a list of them, and all that conflict with a kept fact.
-use Rattle.std.proofs.Common.{◌≡◌, ◌<◌, ◌≤◌, ◌+◌, ◌⊎◌, inl, inr, ◌↔◌, ℕ, List, [], ◌∷◌, ◌++◌, length, take, get_or, refl, sym, ap, ◌∙◌, subst, arith, Contains, append_assoc}
+use Rattle.std.proofs.Common.{◌≡◌, ◌<◌, ◌≤◌, ◌+◌, ◌⊎◌, inl, inr, ◌↔◌, ℕ, List, [], ◌∷◌, ◌++◌, length, take, get_or, sym, ap, ◌∙◌, subst, Contains, append_assoc}
 use Rattle.std.proofs.lemmas.List.{take_more, take_all, append-nil}
-use Rattle.std.proofs.lemmas.List.Elements.{Contains-append_left, Contains-append_right, Contains-append_cases, Contains-push, Contains-push_cases}
+use Rattle.std.proofs.lemmas.List.Elements.{Contains-append_left, Contains-append_cases, Contains-push, Contains-push_cases}
 use Rattle.cq_terms.specs.Conflicts.{ConflictGraph, AreInConflict}
 use Rattle.cq_meaning.proofs.Members.{Contains-nil}
 use Rattle.priority_graph.specs.Priority.{Priority, Conflict, IsBetter, IsOver}
 use Rattle.priority_graph.specs.Cores.{IsBlocked}
-use Rattle.priority_graph.proofs.DirectLemmas.{Conflict-sym}
-use Rattle.repair_encoder.specs.BaseClauses.{Blocks}
+use Rattle.priority_graph.proofs.DirectLemmas.{Conflict-sym, conflict_of, conflict_over}
+use Rattle.repair_clauses.specs.BaseClauses.{Blocks}
 use Rattle.explainer.specs.declared.growth.Growing.{Growing}
 use Rattle.explainer.specs.Growth.{IsSettled, AreSettled, Keeps, Drops}
 use Rattle.explainer.specs.Sets.{Gains, Meets}
@@ -155,17 +155,10 @@ drops_as p present S T old new same h = record {
 
 -- ---- all that conflict with a fact
 
--- over the same pairs the same facts conflict
-pub conflict_of : (p : Priority) (g : ConflictGraph) (i j : ℕ) → IsOver p g → AreInConflict g.clashes i j → Conflict p i j
-conflict_of p g i j over c = subst (λ (cs : List (ℕ × ℕ)). Contains cs (i, j) ⊎ Contains cs (j, i)) (sym over.couples) c
-
-pub conflict_from : (p : Priority) (g : ConflictGraph) (i j : ℕ) → IsOver p g → Conflict p i j → AreInConflict g.clashes i j
-conflict_from p g i j over c = subst (λ (cs : List (ℕ × ℕ)). Contains cs (i, j) ⊎ Contains cs (j, i)) over.couples c
-
 pub drops_rivals : (p : Priority) (g : ConflictGraph) (present rivals : List ℕ) (kept k : ℕ) (old new : Growing) → IsOver p g → ((j : ℕ) → Contains rivals j ↔ AreInConflict g.clashes kept j) → length rivals ≤ k
     → Drops p present (Contains (take k rivals)) old new → Drops p present (Conflict p kept) old new
 drops_rivals p g present rivals kept k old new over exact l h = drops_as p present (Contains rivals) (Conflict p kept) old new
-    (λ j. ((λ m. conflict_of p g kept j over ((exact j).0 m)), (λ c. (exact j).1 (conflict_from p g kept j over c)))) (drops_all p present rivals k old new l h)
+    (λ j. ((λ m. conflict_of p g kept j over ((exact j).0 m)), (λ c. (exact j).1 (conflict_over p g kept j over c)))) (drops_all p present rivals k old new l h)
 
 -- a kept fact blocks what conflicts with it and isn't better
 pub blocks_rival : (p : Priority) (kept : List ℕ) (fact rival : ℕ) → Contains kept fact → Conflict p fact rival → ¬ IsBetter p rival fact → IsSettled p kept rival

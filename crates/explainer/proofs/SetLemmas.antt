@@ -1,5 +1,5 @@
 -- A set of facts by its keys: look-ups, one more fact, that no fact comes twice, and facts in both of two lists.
-use Rattle.std.proofs.Common.{◌≡◌, ◌≢◌, ◌<◌, ◌≤◌, ◌⊎◌, inl, inr, ◌↔◌, ℕ, Bool, true, false, List, [], ◌∷◌, ◌++◌, length, take, get_or, eqb, refl, sym, ap, ◌∙◌, subst, arith, Contains, true≢false, eqb-true}
+use Rattle.std.proofs.Common.{◌≡◌, ◌≢◌, ◌<◌, ◌≤◌, inl, inr, ℕ, true, List, [], ◌∷◌, length, get_or, eqb, refl, sym, ◌∙◌, subst, arith, Contains, true≢false, eqb-true}
 use Rattle.std.specs.List.{AllPairs, IsDistinct, list_any}
 use Rattle.std.proofs.lemmas.Bool.{cases_Bool, eq-eqb}
 use Rattle.std.proofs.lemmas.List.{append-nil, get_or_default}
@@ -8,7 +8,7 @@ use Rattle.std.proofs.lemmas.List.Folds.{list_any_at}
 use Rattle.std.proofs.lemmas.Map.Keys.{apart_from_distinct}
 use Rattle.indexmap.specs.IndexSet.{insert_key}
 use Rattle.indexmap.proofs.CallerLemmas.{Contains-list_any}
-use Rattle.cq_meaning.proofs.Members.{Contains-nil, Contains-one, Contains-cases}
+use Rattle.cq_meaning.proofs.Members.{Contains-nil, Contains-cases}
 use Rattle.explainer.specs.Sets.{Gains, Meets}
 
 same_number : (x y : ℕ) → eqb x y ≡ true → x ≡ y

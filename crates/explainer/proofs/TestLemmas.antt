@@ -6,8 +6,8 @@ use Rattle.cq_terms.specs.Conflicts.{ConflictGraph, AreInConflict}
 use Rattle.cq_meaning.proofs.Ascending.{All-of}
 use Rattle.priority_graph.specs.Priority.{Priority, IsPriority, IsOver}
 use Rattle.priority_graph.specs.Split.{has}
-use Rattle.repair_encoder.specs.BaseClauses.{IsBaseClause}
-use Rattle.repair_encoder.specs.Components.{IsClosedUnder}
+use Rattle.repair_clauses.specs.BaseClauses.{IsBaseClause}
+use Rattle.repair_clauses.specs.Components.{IsClosedUnder}
 use Rattle.explainer.specs.Laws.{ScopeCoversComponents}
 use Rattle.explainer.specs.Wanted.{SatisfiesComponents}
 

@@ -2,7 +2,7 @@
 use Rattle.std.specs.Prelude.{◌≡◌, ℕ, ◌⊎◌, ◌↔◌, ◌++◌, List, Contains}
 use Rattle.priority_graph.specs.Priority.{Priority}
 use Rattle.priority_graph.specs.Cores.{IsBlocked}
-use Rattle.repair_encoder.specs.BaseClauses.{Blocks}
+use Rattle.repair_clauses.specs.BaseClauses.{Blocks}
 use Rattle.explainer.specs.declared.growth.Growing.{Growing}
 
 -- the fact may be dropped where these are kept: it is self-inconsistent, or one of them blocks it

@@ -4,8 +4,8 @@ use Rattle.clause_meaning.specs.Assignments.{SatisfiesAll}
 use Rattle.cq_terms.specs.Conflicts.{ConflictGraph, AreInConflict}
 use Rattle.priority_graph.specs.Priority.{Priority, IsPriority, IsOver}
 use Rattle.priority_graph.specs.Split.{has}
-use Rattle.repair_encoder.specs.BaseClauses.{IsBaseClause}
-use Rattle.repair_encoder.specs.Components.{IsClosedUnder}
+use Rattle.repair_clauses.specs.BaseClauses.{IsBaseClause}
+use Rattle.repair_clauses.specs.Components.{IsClosedUnder}
 use Rattle.explainer.specs.Wanted.{SatisfiesComponents}
 
 -- where an assignment satisfies the base clauses of a scope that is closed under conflict, the facts that are present by it satisfy

@@ -1,5 +1,5 @@
 -- The facts by which causes are not present: the least one of each.
-use Rattle.std.specs.Prelude.{ℕ, ◌≤◌, ◌↔◌, List, All, Contains, Option, MatchOption}
+use Rattle.std.specs.Prelude.{ℕ, ◌≤◌, List, All, Contains, Option, MatchOption}
 use Rattle.cq_terms.specs.Lists.{IsAscending}
 
 -- the least fact of the cause that isn't present

@@ -8,8 +8,8 @@ use Rattle.priority_graph.specs.Priority.{Priority}
 use Rattle.priority_graph.specs.Cores.{IsCore, ConflictsWith}
 use Rattle.priority_graph.specs.ChosenRepairs.{IsChosen}
 use Rattle.priority_graph.specs.Split.{has}
-use Rattle.repair_encoder.specs.BaseClauses.{Blocks, IsBaseClause}
-use Rattle.repair_encoder.specs.Components.{IsReached}
+use Rattle.repair_clauses.specs.BaseClauses.{Blocks, IsBaseClause}
+use Rattle.repair_clauses.specs.Components.{IsReached}
 
 -- the fact is in the component of one of the given facts
 abbrev pub IsReachedFrom : ConflictGraph → List ℕ → ℕ → Type 0

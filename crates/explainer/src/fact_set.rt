@@ -4,7 +4,6 @@ ghost use Rattle.std.specs.Prelude.{◌≡◌, ◌≢◌, ◌↔◌, ◌<◌, []
 ghost use Rattle.explainer.specs.Sets.{Gains, Meets};
 ghost use Rattle.cq_terms.specs.Lists.{IsSorted};
 
-use crate::numbers::ascending;
 use cq_terms::{Ids, NoMemory};
 use indexmap::IndexSet;
 use std::alloc::Global;
@@ -82,6 +81,6 @@ impl FactSet {
     pub(crate) fn sorted(&self, alloc: Global) -> Result<Ids, NoMemory>
         ensures exact { IfOk result (IsSorted self.now) }
     {
-        ascending(alloc, Vec::from_slice(alloc, self.facts.as_slice())?)
+        Ids::sorted(alloc, self.facts.as_slice())
     }
 }

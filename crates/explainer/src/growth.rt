@@ -6,10 +6,10 @@ ghost use Rattle.cq_terms.specs.Lists.{IsAscending};
 ghost use Rattle.priority_graph.specs.Priority.{Conflict, IsOver};
 ghost use Rattle.priority_graph.specs.Cores.{IsBlocked};
 ghost use Rattle.explainer.specs.Growth.{AreSettled, Drops, IsSettled, Keeps};
+ghost use Rattle.explainer.specs.Sets.{Meets};
 
 use crate::fact_set::FactSet;
-use crate::numbers::first_in;
-use cq_terms::{Conflicts, NoMemory};
+use cq_terms::{Conflicts, NoMemory, has_sorted};
 use priority_graph::Better;
 use std::alloc::Global;
 
@@ -207,4 +207,20 @@ impl Growing {
     {
         self.kept.at(place)
     }
+}
+
+/// The first of the numbers that the ascending list has.
+fn first_in(numbers: &[u32], list: &[u32]) -> u32
+    requires ascending { IsAscending list.now }
+    requires some { Meets numbers.now list.now }
+
+    ensures of { Contains numbers.now result }
+    ensures inside { Contains list.now result }
+{
+    for number in numbers {
+        if has_sorted(list, *number) {
+            return *number;
+        }
+    }
+    unreachable!()
 }

@@ -6,7 +6,6 @@ mod fact_set;
 mod growth;
 mod laws;
 mod missing_facts;
-mod numbers;
 
 pub use cores::{Core, core_of};
 pub use laws::scope_covers_components;

@@ -4,8 +4,7 @@ ghost use Rattle.std.specs.Prelude.{◌≡◌, ◌↔◌, None, Some, IfOk, IfSo
 ghost use Rattle.cq_terms.specs.Lists.{IsAscending};
 ghost use Rattle.explainer.specs.Missing.{AreMissing, IsLeastOrNone, SomeIsPresent};
 
-use crate::numbers::{ascending, has_sorted};
-use cq_terms::{IdLists, Ids, NoMemory};
+use cq_terms::{IdLists, Ids, NoMemory, has_sorted};
 use std::alloc::Global;
 
 /// For each cause its least fact that isn't present, ascending and without repeats. `None` comes exactly where some cause is wholly
@@ -23,7 +22,7 @@ pub fn missing(alloc: Global, causes: &IdLists, present: &[u32]) -> Result<Optio
         };
         facts.push(fact)?;
     }
-    let facts = ascending(alloc, facts)?;
+    let facts = Ids::sorted(alloc, facts.as_slice())?;
     Ok(Some(facts))
 }
 

@@ -239,16 +239,8 @@ fn over(upper: u32, lower: u32) -> Pair
 /// The causes 0 3, 3 4 and 2.
 fn three_causes(alloc: Global) -> Result<IdLists, NoMemory> {
     let mut causes = IdLists::new(alloc);
-    causes.push(cause(alloc, &[0, 3])?)?;
-    causes.push(cause(alloc, &[4, 3])?)?;
-    causes.push(cause(alloc, &[2])?)?;
+    causes.push(Ids::from_slice(alloc, &[0, 3])?)?;
+    causes.push(Ids::from_slice(alloc, &[4, 3])?)?;
+    causes.push(Ids::from_slice(alloc, &[2])?)?;
     Ok(causes)
-}
-
-fn cause(alloc: Global, facts: &[u32]) -> Result<Ids, NoMemory> {
-    let mut ids = Ids::new(alloc);
-    for fact in facts {
-        ids.push(*fact)?;
-    }
-    Ok(ids)
 }

@@ -1,10 +1,11 @@
 -- The facts that conflict with kept ones, and whether a kept one blocks each.
-use Rattle.std.proofs.Common.{◌≡◌, ◌<◌, ◌≤◌, ◌+◌, inl, inr, ◌↔◌, ℕ, List, [], ◌∷◌, ◌++◌, length, take, get_or, sym, ◌∙◌, subst, arith, Contains, All}
+use Rattle.std.proofs.Common.{◌≡◌, ◌<◌, ◌≤◌, ◌+◌, ◌⊎◌, inl, inr, ◌↔◌, ℕ, List, [], ◌∷◌, ◌++◌, length, take, get_or, sym, ◌∙◌, subst, arith, Contains, All}
 use Rattle.std.proofs.lemmas.Bool.{cases_Bool, true≢false}
 use Rattle.std.proofs.lemmas.List.{take_more, take_all, get_or_default}
 use Rattle.std.proofs.lemmas.List.Elements.{All-contains, Contains-get_or, Contains-append_left, Contains-append_right, Contains-append_cases, Contains-push, Contains-push_cases}
-use Rattle.cq_terms.specs.Lists.{IsAscending}
-use Rattle.priority_graph.specs.Priority.{Priority, Conflict, IsBetter, IsPriority, AreBlockers}
+use Rattle.cq_terms.specs.Conflicts.{ConflictGraph, AreInConflict}
+use Rattle.cq_terms.specs.Lists.{IsAscending, IsSorted}
+use Rattle.priority_graph.specs.Priority.{Priority, Conflict, IsBetter, IsPriority, IsOver, AreBlockers}
 use Rattle.priority_graph.specs.Cores.{IsFree, IsBlocked, IsCore, ConflictsWith, IsDirect}
 use Rattle.priority_graph.specs.Split.{has}
 use Rattle.priority_graph.proofs.SplitLemmas.{has_true, has_there}
@@ -13,6 +14,13 @@ use Rattle.priority_graph.proofs.SplitLemmas.{has_true, has_there}
 pub Conflict-sym : (p : Priority) (i j : ℕ) → Conflict p i j → Conflict p j i
 Conflict-sym p i j (inl c) = inr c
 Conflict-sym p i j (inr c) = inl c
+
+-- over the same pairs the same facts conflict
+pub conflict_over : (p : Priority) (g : ConflictGraph) (i j : ℕ) → IsOver p g → Conflict p i j → AreInConflict g.clashes i j
+conflict_over p g i j over c = subst (λ (cs : List (ℕ × ℕ)). Contains cs (i, j) ⊎ Contains cs (j, i)) over.couples c
+
+pub conflict_of : (p : Priority) (g : ConflictGraph) (i j : ℕ) → IsOver p g → AreInConflict g.clashes i j → Conflict p i j
+conflict_of p g i j over c = subst (λ (cs : List (ℕ × ℕ)). Contains cs (i, j) ⊎ Contains cs (j, i)) (sym over.couples) c
 
 -- what conflicts with one more kept fact
 pub rivals_more : (p : Priority) (kept : List ℕ) (k : ℕ) (rivals worse blockers : List ℕ) → k < length kept → ((j : ℕ) → Contains rivals j ↔ ConflictsWith p (take k kept) j)
@@ -58,6 +66,13 @@ rivals_none p j = ((λ (k, l, e). absurd (omega arith)), (λ (i, (k, l, e), c). 
 
 pub rivals_all : (p : Priority) (kept : List ℕ) (k : ℕ) (rivals : List ℕ) → length kept ≤ k → ((j : ℕ) → Contains rivals j ↔ ConflictsWith p (take k kept) j) → (j : ℕ) → Contains rivals j ↔ ConflictsWith p kept j
 rivals_all p kept k rivals l h = rw (take_all k kept l) at h
+
+-- the same facts in ascending order
+pub sorted_exact : (p : Priority) (kept rivals sorted : List ℕ) → IsSorted rivals sorted → ((j : ℕ) → Contains rivals j ↔ ConflictsWith p kept j) → (j : ℕ) → Contains sorted j ↔ ConflictsWith p kept j
+sorted_exact p kept rivals sorted h exact j = ((λ m. (exact j).0 ((h.same j).0 m)), (λ w. (h.same j).1 ((exact j).1 w)))
+
+pub sorted_known : (bound : ℕ) (rivals sorted : List ℕ) → IsSorted rivals sorted → All (λ j. j < bound) rivals → All (λ j. j < bound) sorted
+sorted_known bound rivals sorted h known k d l = All-contains (λ j. j < bound) rivals (get_or sorted k d) known ((h.same (get_or sorted k d)).0 (Contains-get_or sorted k d l))
 
 -- a kept fact that blocks, and that none does
 pub blocked_by : (p : Priority) (fact : ℕ) (kept blockers : List ℕ) (k : ℕ) → AreBlockers p fact blockers → k < length kept → Contains blockers (get_or kept k 0) → IsBlocked p (Contains kept) fact

@@ -13,7 +13,7 @@ use Rattle.cq_terms.specs.Lists.{IsAscending}
 use Rattle.cq_terms.specs.ConflictTables.{conflict_entries, rivals}
 use Rattle.cq_terms.specs.FlatLists.{values_at, HaveKeysBelow, AreGrouped}
 use Rattle.priority_graph.specs.Priority.{IsListed, Ranks}
-use Rattle.priority_graph.specs.Split.{has, SetsEach, entries_of, pair_entries, AreSided, AreParted}
+use Rattle.priority_graph.specs.Split.{has, SetsEach, entries_of, pair_entries, AreSplitEntries, AreParted}
 
 -- the test of a member
 pub has_true : (list : List ℕ) (i : ℕ) → Contains list i → has list i ≡ true
@@ -111,8 +111,8 @@ length-filter-le p (e ∷ es) = by (p e) (length-filter-le p es)
     by false h = omega arith
 
 -- no fact is parted yet
-pub sided_none : (g : ConflictGraph) (listed : List (List ℕ)) → AreSided g listed 0 [] []
-sided_none g listed = record {
+pub split_none : (g : ConflictGraph) (listed : List (List ℕ)) → AreSplitEntries g listed 0 [] []
+split_none g listed = record {
   worse_exact = λ i l. absurd (omega arith);
   blockers_exact = λ i l. absurd (omega arith);
   worse_known = All-nil (λ e. e.key < 0);
@@ -137,10 +137,10 @@ pub record HasRivals (g : ConflictGraph) (fact : ℕ) (list : List ℕ) : Type 0
   pub few : length (conflict_entries g.clashes) < 2 ^ 32
 
 -- one more fact
-pub sided_more : (g : ConflictGraph) (listed : List (List ℕ)) (fact : ℕ) (worse blockers : List KeyedNumber) (test : ℕ → Bool) (list : List ℕ)
-    → AreSided g listed fact worse blockers → HasRivals g fact list → ((j : ℕ) → j < g.facts → test j ≡ has (get_or listed fact []) j)
-    → AreSided g listed (fact + 1) (worse ++ entries_of fact test list) (blockers ++ entries_of fact (λ j. not (test j)) list)
-sided_more g listed fact worse blockers test list h r same = record {
+pub split_more : (g : ConflictGraph) (listed : List (List ℕ)) (fact : ℕ) (worse blockers : List KeyedNumber) (test : ℕ → Bool) (list : List ℕ)
+    → AreSplitEntries g listed fact worse blockers → HasRivals g fact list → ((j : ℕ) → j < g.facts → test j ≡ has (get_or listed fact []) j)
+    → AreSplitEntries g listed (fact + 1) (worse ++ entries_of fact test list) (blockers ++ entries_of fact (λ j. not (test j)) list)
+split_more g listed fact worse blockers test list h r same = record {
   worse_exact = λ i l. at worse (has (get_or listed i [])) i test (h.worse_known) l (h.worse_exact i) (λ e. subst (λ (k : ℕ). filter test list ≡ filter (has (get_or listed k [])) (rivals g.clashes k)) e here);
   blockers_exact = λ i l. at blockers (λ j. not (has (get_or listed i []) j)) i (λ j. not (test j)) (h.blockers_known) l (h.blockers_exact i) (λ e. subst (λ (k : ℕ). filter (λ j. not (test j)) list ≡ filter (λ j. not (has (get_or listed k []) j)) (rivals g.clashes k)) e there);
   worse_known = known worse test h.worse_known;
@@ -247,9 +247,9 @@ lists_known facts pairs lists h g = All-from_get_or (λ list. All (λ j. j < fac
     let there : IsListed pairs i (get_or (values_at (pair_entries pairs) i) k d) = listed_there pairs i _ (Contains-get_or (values_at (pair_entries pairs) i) k d m) in
     (All-contains (λ (p : Pair). (p.upper < facts) × (p.lower < facts)) pairs _ h there).1))
 
--- the lists of the sides
+-- the lists of worse facts and of blockers
 pub parted_from : (pairs : List Pair) (g : ConflictGraph) (listed worse blockers : List (List ℕ)) (worse_entries blocker_entries : List KeyedNumber)
-    → AreGrouped (pair_entries pairs) g.facts listed → AreSided g listed g.facts worse_entries blocker_entries
+    → AreGrouped (pair_entries pairs) g.facts listed → AreSplitEntries g listed g.facts worse_entries blocker_entries
     → AreGrouped worse_entries g.facts worse → AreGrouped blocker_entries g.facts blockers → AreParted pairs g worse blockers
 parted_from pairs g listed worse blockers worse_entries blocker_entries l s w b = record {
   worse_all = w.all;

@@ -27,7 +27,7 @@ abbrev pub pair_entries : List Pair → List KeyedNumber
 pair_entries pairs = map (λ p. record { key = p.upper; value = p.lower }) pairs
 
 -- the entries of the facts below a bound: each fact that conflicts with one, by whether the list of this one has it
-pub record AreSided (g : ConflictGraph) (listed : List (List ℕ)) (bound : ℕ) (worse blockers : List KeyedNumber) : Type 0 where
+pub record AreSplitEntries (g : ConflictGraph) (listed : List (List ℕ)) (bound : ℕ) (worse blockers : List KeyedNumber) : Type 0 where
   pub worse_exact : (i : ℕ) → i < bound → values_at worse i ≡ filter (has (slice_index_or listed i [])) (rivals g.clashes i)
   pub blockers_exact : (i : ℕ) → i < bound
       → values_at blockers i ≡ filter (λ j. not (has (slice_index_or listed i []) j)) (rivals g.clashes i)

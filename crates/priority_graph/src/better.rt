@@ -11,12 +11,11 @@ ghost use Rattle.priority_graph.specs.Walks.{IsLeft};
 mod direct;
 
 use crate::PriorityRefusal;
+use crate::clashes::clashes_by_size;
 use crate::cycle::{Unplaced, parents};
-use crate::known::known_facts;
-use crate::numbers::has_sorted;
 use crate::order::place_facts;
 use crate::split::split;
-use cq_terms::{Conflicts, FlatLists, NoMemory, Pair};
+use cq_terms::{Conflicts, FlatLists, NoMemory, Pair, has_sorted};
 use std::alloc::Global;
 use std::marker::Model;
 
@@ -67,10 +66,10 @@ pub fn restrict(
     ensures acyclic { OnOk result (IsAcyclic (Ranks pairs.now conflicts.now)) }
     ensures cycle { IfErr result (Refuses (Ranks pairs.now conflicts.now)) }
 {
-    let sides = split(alloc, pairs, conflicts)?;
-    let placed = place_facts(alloc, conflicts.facts(), &sides.worse)?;
+    let lists = split(alloc, pairs, conflicts)?;
+    let placed = place_facts(alloc, conflicts.facts(), &lists.worse)?;
     if let Some(start) = first_left(placed.counts.as_slice()) {
-        let parents = parents(alloc, &sides.worse, placed.counts.as_slice())?;
+        let parents = parents(alloc, &lists.worse, placed.counts.as_slice())?;
         let unplaced = Unplaced {
             counts: placed.counts,
             parents,
@@ -78,13 +77,13 @@ pub fn restrict(
         let facts = unplaced.cycle_from(alloc, start)?;
         return Err(PriorityRefusal::Cycle { facts });
     }
-    let known = known_facts(alloc, conflicts.clashes())?;
+    let clashes = clashes_by_size(alloc, conflicts.clashes())?;
     Ok(Better {
         facts: conflicts.facts(),
-        own: known.own,
-        couples: known.couples,
-        worse: sides.worse,
-        blockers: sides.blockers,
+        own: clashes.own,
+        couples: clashes.couples,
+        worse: lists.worse,
+        blockers: lists.blockers,
         order: placed.order,
     })
 }

@@ -2,8 +2,8 @@
 #![tactic(auto)]
 
 mod better;
+mod clashes;
 mod cycle;
-mod known;
 mod laws;
 mod numbers;
 mod order;

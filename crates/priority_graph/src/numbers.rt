@@ -1,11 +1,11 @@
 //! Lists of zeros, and writes to lists of numbers.
 
-ghost use Rattle.std.specs.Prelude.{◌≡◌, ◌<◌, ◌^◌, length, replicate, All, Contains, IsTrue, ◌↔◌, ℕ, IfOk};
+ghost use Rattle.std.specs.Prelude.{◌≡◌, ◌<◌, ◌^◌, length, replicate, All, IfOk};
 ghost use Rattle.cq_terms.specs.Lists.{IsAscending};
 ghost use Rattle.priority_graph.specs.Orders.{AddsEach};
 ghost use Rattle.priority_graph.specs.Split.{SetsEach};
 
-use cq_terms::{Ids, NoMemory};
+use cq_terms::NoMemory;
 use std::alloc::Global;
 
 /// Answers as many zeros as are asked for.
@@ -38,27 +38,4 @@ pub(crate) fn add_each(numbers: &mut Vec<u32>, places: &[u32])
     for place in places {
         numbers[*place as usize] += 1;
     }
-}
-
-/// Whether the ascending list has the number.
-pub(crate) fn has_sorted(list: &[u32], number: u32) -> bool
-    requires ascending { IsAscending list.now }
-
-    ensures exact { IsTrue result ↔ Contains list.now number }
-{
-    list.binary_search(&number).is_ok()
-}
-
-/// Answers the numbers of the list, each once, ascending.
-pub(crate) fn ascending(alloc: Global, mut numbers: Vec<u32>) -> Result<Ids, NoMemory>
-    ensures ascending { IfOk result IsAscending }
-    ensures same { IfOk result (λ ids. (i : ℕ) → Contains ids i ↔ Contains numbers.items i) }
-{
-    numbers.sort_unstable();
-    numbers.dedup();
-    let mut ids = Ids::new(alloc);
-    for number in numbers.as_slice() {
-        ids.push(*number)?;
-    }
-    Ok(ids)
 }

@@ -1,15 +1,15 @@
 //! For each fact, which of those that conflict with it are worse, and which block it.
 
 ghost use Rattle.std.specs.Prelude.{◌≡◌, ◌+◌, ◌<◌, ◌^◌, ◌++◌, ◌==◌, length, not, slice_index, All, IfOk, OnOk};
-ghost use Rattle.priority_graph.specs.Split.{AreParted, AreSided, entries_of, pair_entries};
+ghost use Rattle.priority_graph.specs.Split.{AreParted, AreSplitEntries, entries_of, pair_entries};
 
 use crate::numbers::{set_each, zeros};
-use cq_terms::{Conflicts, KeyedNumber, FlatLists, NoMemory, Pair};
+use cq_terms::{Conflicts, FlatLists, KeyedNumber, NoMemory, Pair};
 use std::alloc::Global;
 
 /// Two lists for each fact.
 #[derive(Drop)]
-pub(crate) struct Sides {
+pub(crate) struct WorseAndBlockers {
     /// The facts that the fact is better than, ascending.
     pub(crate) worse: FlatLists,
     /// The other facts that conflict with the fact, ascending.
@@ -17,7 +17,11 @@ pub(crate) struct Sides {
 }
 
 /// Parts the facts that conflict with each fact by whether the pair of the two is listed.
-pub(crate) fn split(alloc: Global, pairs: &[Pair], conflicts: &Conflicts) -> Result<Sides, NoMemory>
+pub(crate) fn split(
+    alloc: Global,
+    pairs: &[Pair],
+    conflicts: &Conflicts,
+) -> Result<WorseAndBlockers, NoMemory>
     requires few { length pairs.now < 2 ^ 31 }
     requires named { All (λ p. (p.upper < conflicts.now.facts) × (p.lower < conflicts.now.facts)) pairs.now }
 
@@ -25,10 +29,10 @@ pub(crate) fn split(alloc: Global, pairs: &[Pair], conflicts: &Conflicts) -> Res
 {
     let entries = listed_entries(alloc, pairs)?;
     let listed = FlatLists::grouped(alloc, conflicts.facts(), entries.as_slice())?;
-    let sides = sided(alloc, &listed, conflicts)?;
-    let worse = FlatLists::grouped(alloc, conflicts.facts(), sides.worse.as_slice())?;
-    let blockers = FlatLists::grouped(alloc, conflicts.facts(), sides.blockers.as_slice())?;
-    Ok(Sides { worse, blockers })
+    let split = split_entries(alloc, &listed, conflicts)?;
+    let worse = FlatLists::grouped(alloc, conflicts.facts(), split.worse.as_slice())?;
+    let blockers = FlatLists::grouped(alloc, conflicts.facts(), split.blockers.as_slice())?;
+    Ok(WorseAndBlockers { worse, blockers })
 }
 
 /// Answers an entry for each pair, with the upper fact as the key.
@@ -45,35 +49,39 @@ fn listed_entries(alloc: Global, pairs: &[Pair]) -> Result<Vec<KeyedNumber>, NoM
     Ok(entries)
 }
 
-/// The entries of both lists, by fact.
+/// The entries of both lists of each fact.
 #[derive(Drop)]
-struct SideEntries {
+struct SplitEntries {
     worse: Vec<KeyedNumber>,
     blockers: Vec<KeyedNumber>,
 }
 
 /// Parts the facts that conflict with each fact, in order, by whether the list of the fact has them.
-fn sided(alloc: Global, listed: &FlatLists, conflicts: &Conflicts) -> Result<SideEntries, NoMemory>
+fn split_entries(
+    alloc: Global,
+    listed: &FlatLists,
+    conflicts: &Conflicts,
+) -> Result<SplitEntries, NoMemory>
     requires all { length listed.now ≡ conflicts.now.facts }
     requires known { All (λ list. All (λ j. j < conflicts.now.facts) list) listed.now }
 
-    ensures exact { IfOk result (λ s. AreSided conflicts.now listed.now conflicts.now.facts
+    ensures exact { IfOk result (λ s. AreSplitEntries conflicts.now listed.now conflicts.now.facts
         s.worse.items s.blockers.items) }
 {
     let mut unmarked = zeros(alloc, conflicts.facts())?;
     let marks = unmarked.as_mut_slice();
-    let mut sides = SideEntries {
+    let mut entries = SplitEntries {
         worse: Vec::new(alloc),
         blockers: Vec::new(alloc),
     };
     for fact in 0..conflicts.facts() {
         set_each(marks, listed.list(fact), fact + 1);
-        sides.take(marks, fact, conflicts.of(fact))?;
+        entries.take(marks, fact, conflicts.of(fact))?;
     }
-    Ok(sides)
+    Ok(entries)
 }
 
-impl SideEntries {
+impl SplitEntries {
     /// Takes each fact that conflicts with `fact`, by whether its mark is that of `fact`.
     fn take(&mut self, marks: &[u32], fact: u32, rivals: &[u32]) -> Result<(), NoMemory>
         requires inside { All (λ j. j < length marks.now) rivals.now }

@@ -21,7 +21,7 @@ fn each_fact_has_its_blockers(rt: HostRuntime) -> Result<(), Fail> {
 #[test]
 fn one_fact_makes_no_core_where_a_better_one_is_dropped(rt: HostRuntime) -> Result<(), Fail> {
     let better = two_over_two(rt.alloc())?;
-    assert!(rt; better.direct(rt.alloc(), &[0])?.is_none());
+    assert!(rt; better.direct(&[0])?.is_none());
     Ok(())
 }
 
@@ -30,7 +30,7 @@ fn two_facts_make_a_core_where_one_of_them_blocks_each_dropped(
     rt: HostRuntime,
 ) -> Result<(), Fail> {
     let better = two_over_two(rt.alloc())?;
-    let dropped = better.direct(rt.alloc(), &[0, 1])?.ok_or("none")?;
+    let dropped = better.direct(&[0, 1])?.ok_or("none")?;
     assert_eq!(rt; dropped.as_slice(), [2, 3].as_slice());
     Ok(())
 }

@@ -15,11 +15,12 @@ use Rattle.report_text.specs.LineBytes.{bytes_of}
 use Rattle.cq_meaning.specs.Candidates.{AreCandidates}
 use Rattle.refutation_confirmer.specs.declared.progress.Kind.TheVariants as kind
 use Rattle.refutation_confirmer.specs.declared.progress.Progress.{Progress}
-use Rattle.refutation_confirmer.specs.declared.rule.Rule.{Rule}
-use Rattle.refutation_confirmer.specs.declared.rule.Rule.TheVariants as rule
+use Rattle.report_rules.specs.declared.rule.Rule.{Rule}
+use Rattle.report_rules.specs.declared.rule.Rule.TheVariants as rule
 use Rattle.refutation_confirmer.specs.Acceptance.{AreRight, IsAccepted, IsBroken, IsFirstBroken}
 use Rattle.refutation_confirmer.specs.Progress.{after, no_lines, progress_of}
-use Rattle.refutation_confirmer.specs.Rules.{IsRight, Breaks, own_rule}
+use Rattle.refutation_confirmer.specs.Rules.{IsRight, Breaks}
+use Rattle.report_rules.specs.Broken.{rule_of}
 use Rattle.refutation_confirmer.specs.Split.{StartsWith}
 
 -- COUNTS
@@ -118,12 +119,12 @@ module _ (kb : Knowledge) (q : Query) (texts : List (List ℕ)) (candidates : Li
   breaks_broken : (before : List Line) (rest more : List ℕ) (l : Line) (r : Rule) → IsWellFormed l → StartsWith rest l more → Breaks kb q texts candidates (progress_of before) l r → IsBroken kb q texts candidates before rest r
   breaks_broken before rest more l rule.Text w s b = absurd (never l b.1)
     where
-      never : (l : Line) → own_rule l ≡ rule.Text → ⊥
+      never : (l : Line) → rule_of l ≡ rule.Text → ⊥
       never (line.Head axioms budget facts keep mode version) e = cc e
       never l e = cc e
   breaks_broken before rest more l rule.Missing w s b = absurd (never l b.1)
     where
-      never : (l : Line) → own_rule l ≡ rule.Missing → ⊥
+      never : (l : Line) → rule_of l ≡ rule.Missing → ⊥
       never (line.Head axioms budget facts keep mode version) e = cc e
       never l e = cc e
   breaks_broken before rest more l rule.Order w s b = (l, more, w, s, b)

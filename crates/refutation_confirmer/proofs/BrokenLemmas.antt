@@ -7,11 +7,12 @@ use Rattle.cq_terms.specs.Query.{Query}
 use Rattle.report_text.specs.declared.line.Line.{Line}
 use Rattle.report_text.specs.Lines.{IsWellFormed, text_of}
 use Rattle.report_text.specs.LineBytes.{bytes_of}
-use Rattle.refutation_confirmer.specs.declared.rule.Rule.{Rule}
-use Rattle.refutation_confirmer.specs.declared.rule.Rule.TheVariants as rule
+use Rattle.report_rules.specs.declared.rule.Rule.{Rule}
+use Rattle.report_rules.specs.declared.rule.Rule.TheVariants as rule
 use Rattle.refutation_confirmer.specs.Acceptance.{AreRight, HasEnded, IsAccepted, IsBroken, IsFirstBroken}
 use Rattle.refutation_confirmer.specs.Progress.{progress_of}
-use Rattle.refutation_confirmer.specs.Rules.{IsRight, own_rule, is_in_order, ObeysOwnRule}
+use Rattle.refutation_confirmer.specs.Rules.{IsRight, is_in_order, ObeysOwnRule}
+use Rattle.report_rules.specs.Broken.{rule_of}
 use Rattle.refutation_confirmer.specs.Split.{StartsWith}
 use Rattle.refutation_confirmer.proofs.SplitLemmas.{same_start}
 use Rattle.refutation_confirmer.proofs.CandidateLemmas.{same_candidates}
@@ -63,7 +64,7 @@ module _ (kb : Knowledge) (q : Query) (texts : List (List ℕ)) (candidates : Li
     text : r ≡ rule.Text → ¬ (rest ≡ []) → ((l : Line) (more : List ℕ) → IsWellFormed l → ¬ StartsWith rest l more) → Way before rest r
     missing : r ≡ rule.Missing → rest ≡ [] → ¬ HasEnded before → Way before rest r
     order : r ≡ rule.Order → (l : Line) (more : List ℕ) → IsWellFormed l → StartsWith rest l more → is_in_order (progress_of before) l ≡ false → Way before rest r
-    own : (l : Line) (more : List ℕ) → IsWellFormed l → StartsWith rest l more → is_in_order (progress_of before) l ≡ true → own_rule l ≡ r → ¬ ObeysOwnRule kb q texts candidates (progress_of before) l → Way before rest r
+    own : (l : Line) (more : List ℕ) → IsWellFormed l → StartsWith rest l more → is_in_order (progress_of before) l ≡ true → rule_of l ≡ r → ¬ ObeysOwnRule kb q texts candidates (progress_of before) l → Way before rest r
 
   way : (before : List Line) (rest : List ℕ) (r : Rule) → IsBroken kb q texts candidates before rest r → Way before rest r
   way before rest rule.Text (n, none) = text refl n none
@@ -110,7 +111,7 @@ module _ (kb : Knowledge) (q : Query) (texts : List (List ℕ)) (candidates : Li
   one_rule before rest r t (own k past v u p e n) (text f m none) = absurd (none k past v u)
   one_rule before rest r t (own k past v u p e n) (missing f is m) = absurd (nothing_starts rest k past is u)
   one_rule before rest r t (own k past v u p e n) (order f l more w s x) = absurd (true≢false (sym p ∙ ap (is_in_order (progress_of before)) (same_start rest k l past more v w u s).0 ∙ x))
-  one_rule before rest r t (own k past v u p e n) (own l more w s o f m) = sym e ∙ ap own_rule (same_start rest k l past more v w u s).0 ∙ f
+  one_rule before rest r t (own k past v u p e n) (own l more w s o f m) = sym e ∙ ap rule_of (same_start rest k l past more v w u s).0 ∙ f
 
   -- a broken line has no right one in its place
   pub none_right : (lines before : List Line) (rest end : List ℕ) (r : Rule) → AreRight kb q texts candidates lines → IsBroken kb q texts candidates before rest r → GoesOn lines before end rest → ⊥

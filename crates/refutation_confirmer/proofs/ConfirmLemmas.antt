@@ -9,8 +9,8 @@ use Rattle.cq_meaning.specs.ConceptNames.{IsOfNames, IsOfName}
 use Rattle.refutation_confirmer.specs.declared.confirmed.Confirmed.TheVariants.{Yes, No}
 use Rattle.refutation_confirmer.specs.declared.progress.Kind.TheVariants as kind
 use Rattle.refutation_confirmer.specs.declared.progress.Progress.{Progress}
-use Rattle.refutation_confirmer.specs.declared.rule.Rule.{Rule}
-use Rattle.refutation_confirmer.specs.declared.rule.Rule.TheVariants as rule
+use Rattle.report_rules.specs.declared.rule.Rule.{Rule}
+use Rattle.report_rules.specs.declared.rule.Rule.TheVariants as rule
 use Rattle.refutation_confirmer.specs.declared.tables.Tables.{Tables}
 use Rattle.refutation_confirmer.specs.Acceptance.{IsAccepted, IsFirstBroken}
 use Rattle.refutation_confirmer.specs.Candidates.{tuples_of}

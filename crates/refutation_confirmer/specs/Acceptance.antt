@@ -7,8 +7,8 @@ use Rattle.report_text.specs.Lines.{IsWellFormed}
 use Rattle.report_text.specs.LineBytes.{bytes_of}
 use Rattle.cq_meaning.specs.Candidates.{AreCandidates}
 use Rattle.refutation_confirmer.specs.declared.progress.Kind.TheVariants as kind
-use Rattle.refutation_confirmer.specs.declared.rule.Rule.{Rule}
-use Rattle.refutation_confirmer.specs.declared.rule.Rule.TheVariants as rule
+use Rattle.report_rules.specs.declared.rule.Rule.{Rule}
+use Rattle.report_rules.specs.declared.rule.Rule.TheVariants as rule
 use Rattle.refutation_confirmer.specs.Progress.{progress_of}
 use Rattle.refutation_confirmer.specs.Rules.{IsRight, Breaks}
 use Rattle.refutation_confirmer.specs.Split.{StartsWith}

@@ -5,7 +5,6 @@ pub mod Cores
 pub mod Marks
 pub mod Names
 pub mod Progress
-pub mod RuleWords
 pub mod Rules
 pub mod Split
 pub mod Tables

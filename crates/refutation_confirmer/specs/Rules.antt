@@ -15,8 +15,9 @@ use Rattle.cq_meaning.specs.Cores.{IsCore}
 use Rattle.cq_terms.specs.Lists.{IsAscending}
 use Rattle.refutation_confirmer.specs.declared.progress.Kind.TheVariants as kind
 use Rattle.refutation_confirmer.specs.declared.progress.Progress.{Progress}
-use Rattle.refutation_confirmer.specs.declared.rule.Rule.{Rule}
-use Rattle.refutation_confirmer.specs.declared.rule.Rule.TheVariants as rule
+use Rattle.report_rules.specs.declared.rule.Rule.{Rule}
+use Rattle.report_rules.specs.declared.rule.Rule.TheVariants as rule
+use Rattle.report_rules.specs.Broken.{rule_of}
 use Rattle.refutation_confirmer.specs.Cores.{is_in}
 use Rattle.refutation_confirmer.specs.Progress.{kind_of, may_follow}
 
@@ -84,20 +85,6 @@ ObeysOwnRule kb q texts candidates progress (line.Answer brave ar iar cores name
 ObeysOwnRule kb q texts candidates progress (line.End answers brave ar iar undecided) = IsRightEnd candidates progress answers brave ar iar undecided
 ObeysOwnRule kb q texts candidates progress _ = ⊥
 
--- the rule of the line's kind
-abbrev pub own_rule : Line → Rule
-own_rule (line.Head axioms budget facts keep mode version) = rule.Head
-own_rule (line.Core number kept dropped) = rule.Core
-own_rule (line.Answer brave ar iar cores names tuple) = rule.Answer
-own_rule (line.End answers brave ar iar undecided) = rule.End
-own_rule (line.Cq of query made_by) = rule.Cq
-own_rule (line.Conflict facts number place) = rule.Conflict
-own_rule (line.Ask candidate tuple causes members) = rule.Ask
-own_rule (line.Try question assume) = rule.Try
-own_rule (line.Learn number clause) = rule.Learn
-own_rule (line.Done how core) = rule.Done
-own_rule (line.Forget clauses) = rule.Forget
-
 -- whether the line may stand here, by its kind
 abbrev pub is_in_order : Progress → Line → Bool
 is_in_order progress line = may_follow progress.last (kind_of line)
@@ -110,4 +97,4 @@ pub record IsRight (kb : Knowledge) (q : Query) (texts : List (List ℕ)) (candi
 -- the line breaks the rule, and no rule that is tried before it
 abbrev pub Breaks : Knowledge → Query → List (List ℕ) → List (List ℕ) → Progress → Line → Rule → Type 0
 Breaks kb q texts candidates progress line rule.Order = is_in_order progress line ≡ false
-Breaks kb q texts candidates progress line rule = (is_in_order progress line ≡ true) × (own_rule line ≡ rule) × ¬ ObeysOwnRule kb q texts candidates progress line
+Breaks kb q texts candidates progress line rule = (is_in_order progress line ≡ true) × (rule_of line ≡ rule) × ¬ ObeysOwnRule kb q texts candidates progress line

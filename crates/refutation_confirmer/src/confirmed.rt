@@ -3,8 +3,8 @@
 ghost use Rattle.std.specs.Prelude.{◌≡◌};
 ghost use Rattle.refutation_confirmer.specs.declared.confirmed.ConfirmFault.TheVariants as fault;
 
-use crate::Rule;
 use cq_terms::NoMemory;
+use report_rules::Rule;
 use report_text::ReadRefusal;
 use std::alloc::AllocError;
 

@@ -11,8 +11,9 @@ use crate::progress::{Kind, Progress};
 use crate::rules::broken_rule;
 use crate::split::first_line;
 use crate::tables::Tables;
-use crate::{ConfirmFault, Confirmed, Rule};
+use crate::{ConfirmFault, Confirmed};
 use cq_terms::{Cq, Kb, QAtom, Vocab};
+use report_rules::Rule;
 use std::alloc::Global;
 
 /// Whether the report is accepted for the knowledge base and the query for the individuals of a concept.

@@ -8,7 +8,6 @@ mod cores;
 mod marks;
 mod names;
 mod progress;
-mod rule;
 mod rules;
 mod split;
 mod tables;
@@ -17,4 +16,3 @@ mod tests;
 
 pub use confirmed::{ConfirmFault, Confirmed};
 pub use confirming::confirm;
-pub use rule::Rule;

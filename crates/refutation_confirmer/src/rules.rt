@@ -6,13 +6,13 @@ ghost use Rattle.cq_meaning.specs.Candidates.{concept_query};
 ghost use Rattle.cq_meaning.specs.ConceptNames.{IsOfNames, IsOfName};
 ghost use Rattle.refutation_confirmer.specs.Tables.{AreTables, AreIndividualsWithin};
 ghost use Rattle.refutation_confirmer.specs.Candidates.{tuples_of, HasReason, IsToldBrave, IsToldAnswer};
-ghost use Rattle.refutation_confirmer.specs.Rules.{IsRightHead, IsRightCore, IsRightAnswer, IsRightBrave, IsRightEnd, ObeysOwnRule, IsRight, Breaks, own_rule};
+ghost use Rattle.refutation_confirmer.specs.Rules.{IsRightHead, IsRightCore, IsRightAnswer, IsRightBrave, IsRightEnd, ObeysOwnRule, IsRight, Breaks};
 
-use crate::Rule;
 use crate::cores::{are_fact_numbers, has_fact_of, is_core};
 use crate::progress::{Kind, Progress, kind_of, may_follow};
 use crate::tables::Tables;
 use cq_terms::{Kb, Names, NoMemory, Repairs};
+use report_rules::{Rule, own_rule};
 use report_text::{Line, Verdict};
 use std::alloc::Global;
 
@@ -44,25 +44,6 @@ pub fn broken_rule(
         Ok(None)
     } else {
         Ok(Some(own_rule(line)))
-    }
-}
-
-/// The rule of the line's kind.
-fn own_rule(line: &Line) -> Rule
-    ensures exact { result ≡ own_rule line.now }
-{
-    match line {
-        Line::Head { .. } => Rule::Head,
-        Line::Core { .. } => Rule::Core,
-        Line::Answer { .. } => Rule::Answer,
-        Line::End { .. } => Rule::End,
-        Line::Cq { .. } => Rule::Cq,
-        Line::Conflict { .. } => Rule::Conflict,
-        Line::Ask { .. } => Rule::Ask,
-        Line::Try { .. } => Rule::Try,
-        Line::Learn { .. } => Rule::Learn,
-        Line::Done { .. } => Rule::Done,
-        Line::Forget { .. } => Rule::Forget,
     }
 }
 

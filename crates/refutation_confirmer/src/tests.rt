@@ -5,8 +5,9 @@ ghost use Rattle.cq_meaning.specs.Candidates.{concept_query};
 ghost use Rattle.cq_meaning.specs.ConceptNames.{IsOfNames, IsOfName};
 ghost use Rattle.refutation_confirmer.specs.Tables.{AreIndividualsWithin};
 
-use crate::{Confirmed, Rule, confirm};
+use crate::{Confirmed, confirm};
 use cq_terms::{Axiom, Basic, Cq, Fact, Kb, NoMemory, QAtom, Term, Vocab};
+use report_rules::Rule;
 use std::alloc::Global;
 use std::test::Fail;
 

@@ -1,27 +1,22 @@
 -- The base clauses of given facts, as a walk over the facts builds them.
-use Rattle.std.proofs.Common.{◌≡◌, ◌<◌, ◌≤◌, ◌+◌, ◌⊎◌, inl, inr, ◌↔◌, ℕ, List, [], ◌∷◌, ◌++◌, length, map, take, get_or, sym, ◌∙◌, subst, arith, Contains, insert, ltb}
+use Rattle.std.proofs.Common.{◌≡◌, ◌<◌, ◌≤◌, ◌+◌, ◌⊎◌, inl, inr, ◌↔◌, ℕ, List, [], ◌∷◌, ◌++◌, length, map, take, get_or, sym, subst, arith, Contains, insert, ltb}
 use Rattle.std.specs.List.{filter}
 use Rattle.std.proofs.lemmas.Bool.{lt-ltb, ltb-true}
 use Rattle.std.proofs.lemmas.List.{take_more, take_all}
 use Rattle.std.proofs.lemmas.List.Elements.{All-contains, Contains-append_left, Contains-append_right, Contains-append_cases, Contains-push, Contains-push_cases}
 use Rattle.clause_meaning.proofs.Members.{Contains-map, Contains-map_cases}
 use Rattle.cq_meaning.proofs.Members.{Contains-nil}
-use Rattle.cq_meaning.proofs.Ascending.{ascending_same}
 use Rattle.cq_terms.specs.Conflicts.{ConflictGraph, AreInConflict, AreClashes, couples}
 use Rattle.cq_terms.specs.Lists.{IsAscending}
 use Rattle.cq_terms.proofs.ConflictsLemmas.{couples_below, upward}
-use Rattle.priority_graph.specs.Priority.{Priority, IsOver, Conflict, AreBlockers}
+use Rattle.priority_graph.specs.Priority.{Priority, IsOver, AreBlockers}
 use Rattle.priority_graph.proofs.SplitLemmas.{Contains-filter_to, Contains-filter_from}
-use Rattle.repair_encoder.specs.BaseClauses.{present, conflict_clause, conflict_clauses, Blocks, SaysOneIsPresent, IsFactClause, IsBaseClause}
-use Rattle.repair_encoder.specs.Components.{IsClosedUnder}
-use Rattle.repair_encoder.proofs.ListLemmas.{ascending_map, insert_to, insert_from}
-
--- the clause of a fact is one list
-pub fact_clause_unique : (p : Priority) (f : ℕ) (c d : List ℕ) → IsFactClause p f c → IsFactClause p f d → c ≡ d
-fact_clause_unique p f c d (inl (o, e)) (inl (q, g)) = e ∙ sym g
-fact_clause_unique p f c d (inl (o, e)) (inr (n, b)) = absurd (n o)
-fact_clause_unique p f c d (inr (n, b)) (inl (o, e)) = absurd (n o)
-fact_clause_unique p f c d (inr (n, b)) (inr (m, w)) = ascending_same c d b.ascending w.ascending (λ l k. (w.exact l).1 ((b.exact l).0 k)) (λ l k. (b.exact l).1 ((w.exact l).0 k))
+use Rattle.repair_clauses.specs.BaseClauses.{present, conflict_clause, Blocks, IsFactClause, IsBaseClause}
+use Rattle.repair_encoder.specs.Forms.{conflict_clauses, SaysOneIsPresent}
+use Rattle.repair_clauses.specs.Components.{IsClosedUnder}
+use Rattle.repair_clauses.proofs.LawLemmas.{fact_clause_unique}
+use Rattle.repair_clauses.proofs.ListLemmas.{ascending_map}
+use Rattle.repair_encoder.proofs.ListLemmas.{insert_to, insert_from}
 
 -- the lesser fact of a pair in conflict stands first
 pub couple_up : (g : ConflictGraph) (i j : ℕ) → AreClashes g.facts g.clashes → Contains (couples g.clashes) (i, j) → i < j
@@ -30,10 +25,6 @@ couple_up g i j h c = All-contains (λ (c : ℕ × ℕ). c.0 < c.1) (couples g.c
 pub no_self_conflict : (g : ConflictGraph) (i : ℕ) → AreClashes g.facts g.clashes → AreInConflict g.clashes i i → ⊥
 no_self_conflict g i h (inl c) = let l = couple_up g i i h c in omega arith
 no_self_conflict g i h (inr c) = let l = couple_up g i i h c in omega arith
-
--- over the same pairs the same facts conflict
-pub conflict_over : (p : Priority) (g : ConflictGraph) (i j : ℕ) → IsOver p g → Conflict p i j → AreInConflict g.clashes i j
-conflict_over p g i j over c = subst (λ (cs : List (ℕ × ℕ)). Contains cs (i, j) ⊎ Contains cs (j, i)) over.couples c
 
 -- the literals of a fact and of others, with the fact at its place
 present_insert : (fact at : ℕ) (others : List ℕ) (l : ℕ) → Contains (map present (insert others at fact)) l ↔ ((f : ℕ) × ((f ≡ fact) ⊎ Contains others f) × (l ≡ present f))

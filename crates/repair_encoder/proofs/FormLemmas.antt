@@ -6,10 +6,12 @@ use Rattle.clause_meaning.specs.Literals.{variable_of, HaveDistinctVariables}
 use Rattle.cq_terms.specs.Conflicts.{ConflictGraph, AreInConflict, AreClashes}
 use Rattle.cq_terms.specs.Lists.{IsAscending}
 use Rattle.priority_graph.specs.Priority.{Priority, IsOver}
-use Rattle.repair_encoder.specs.BaseClauses.{present, absent, conflict_clause, Blocks, IsBaseClause, HasForm}
-use Rattle.repair_encoder.specs.Components.{IsClosedUnder}
-use Rattle.repair_encoder.proofs.BaseLemmas.{couple_up, conflict_over}
-use Rattle.repair_encoder.proofs.ListLemmas.{one_of, one_of_two}
+use Rattle.repair_clauses.specs.BaseClauses.{present, absent, conflict_clause, Blocks, IsBaseClause}
+use Rattle.repair_encoder.specs.Forms.{HasForm}
+use Rattle.repair_clauses.specs.Components.{IsClosedUnder}
+use Rattle.priority_graph.proofs.DirectLemmas.{conflict_over}
+use Rattle.repair_encoder.proofs.BaseLemmas.{couple_up}
+use Rattle.repair_clauses.proofs.ListLemmas.{one_of, one_of_two}
 
 -- all literals are of facts of the list, and of one sign
 abbrev AreOf : List ℕ → ℕ → List ℕ → Type 0

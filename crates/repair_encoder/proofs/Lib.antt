@@ -1,6 +1,6 @@
 pub mod BaseLemmas
 pub mod FormLemmas
-pub mod LawLemmas
 pub mod ListLemmas
+pub mod SortedLemmas
 pub mod TwinLemmas
 pub mod WalkLemmas

@@ -1,18 +1,18 @@
--- Ascending lists: with one more number at its place, and with each number turned into another; their members.
-use Rattle.std.proofs.Common.{◌≡◌, ◌<◌, ◌≤◌, ◌+◌, ◌-◌, ◌⊎◌, inl, inr, ℕ, zero, suc, List, [], ◌∷◌, ◌++◌, length, map, take, drop, get_or, refl, sym, ap, ◌∙◌, subst, arith, append_assoc, Contains, insert, Err, All}
+-- Ascending lists with one more number at its place, and lists of literals.
+use Rattle.std.proofs.Common.{◌≡◌, ◌<◌, ◌≤◌, ◌+◌, ◌-◌, ◌⊎◌, inl, inr, ℕ, List, [], ◌∷◌, ◌++◌, length, map, take, drop, get_or, sym, ap, ◌∙◌, subst, arith, append_assoc, Contains, insert, Err}
 use Rattle.std.specs.List.Sorted.{IsBinarySearchResult}
 use Rattle.std.specs.Ordering.{nat_cmp}
 use Rattle.std.proofs.lemmas.Bool.{cases_eq, cases_lt}
 use Rattle.std.proofs.lemmas.List.{get_or_default, length-map, take-append-drop, map-append}
 use Rattle.std.proofs.lemmas.List.Elements.{Contains-append_left, Contains-append_right, Contains-append_cases}
 use Rattle.std.proofs.lemmas.List.Edits.{length-insert, get_or-insert_below, get_or-insert_at, get_or-insert_above}
-use Rattle.std.proofs.lemmas.List.Quantifiers.{all_pairs_push}
 use Rattle.std.proofs.lemmas.List.Sorted.{searched}
 use Rattle.clause_meaning.specs.Literals.{variable_of, HaveDistinctVariables}
-use Rattle.repair_encoder.specs.BaseClauses.{absent, present}
-use Rattle.repair_encoder.specs.CauseClauses.{cause_clause}
+use Rattle.repair_clauses.specs.BaseClauses.{absent, present}
+use Rattle.repair_clauses.specs.CauseClauses.{cause_clause}
+use Rattle.repair_clauses.proofs.ListLemmas.{get_or-map_in}
 use Rattle.cq_terms.specs.Lists.{IsAscending}
-use Rattle.cq_meaning.proofs.Members.{Contains-head, Contains-later, Contains-cases, Contains-nil}
+use Rattle.cq_meaning.proofs.Members.{Contains-head, Contains-later, Contains-cases}
 
 -- an ascending list stays so with a number at its place
 pub ascending_insert : (xs : List ℕ) (at y : ℕ) → IsAscending xs → at ≤ length xs → ((k : ℕ) → k < at → get_or xs k 0 < y) → ((k : ℕ) → at ≤ k → k < length xs → y < get_or xs k 0) → IsAscending (insert xs at y)
@@ -60,27 +60,12 @@ insert_from xs at y z (inr m) = elim (Contains-append_cases (take at xs) (drop a
   | inr n ↦ Contains-append_right (take at xs) (y ∷ drop at xs) z (Contains-later y (drop at xs) z n)
 ]
 
-pub get_or-map_in : {X Y : Type 0} (f : X → Y) (xs : List X) (i : ℕ) (d : Y) (e : X) → i < length xs → get_or (map f xs) i d ≡ f (get_or xs i e)
-get_or-map_in f [] i d e l = absurd (omega arith)
-get_or-map_in f (x ∷ xs) zero d e l = refl
-get_or-map_in f (x ∷ xs) (suc i) d e l = get_or-map_in f xs i d e (omega arith)
-
--- a list stays ascending under a function that rises
-pub ascending_map : (f : ℕ → ℕ) → ((i j : ℕ) → i < j → f i < f j) → (xs : List ℕ) → IsAscending xs → IsAscending (map f xs)
-ascending_map f rises xs up i j d l m =
-    let long = length-map xs f in
-    rw (get_or-map_in f xs i d d (omega arith), get_or-map_in f xs j d d (omega arith)) (rises _ _ (up i j d l (omega arith)))
-
 pub rising : (xs : List ℕ) → IsAscending xs → (i j : ℕ) → i ≤ j → j < length xs → get_or xs i 0 ≤ get_or xs j 0
 rising xs up i j le l = elim (cases_eq i j) [ inl e ↦ omega (arith, ap (λ (n : ℕ). get_or xs n 0) e) | inr n ↦ let less = up i j 0 (omega arith) l in omega arith ]
 
 -- where a binary search doesn't find the number it finds its place
 pub ascending_searched : (xs : List ℕ) (at y : ℕ) → IsAscending xs → IsBinarySearchResult (λ x. nat_cmp x y) xs (Err at) → IsAscending (insert xs at y)
 ascending_searched xs at y up h = let w = searched xs y (Err at) h (rising xs up) in ascending_insert xs at y up w.0 w.1 w.2
-
--- a list stays ascending with a number at its end that is above all
-pub ascending_push : (xs : List ℕ) (y : ℕ) → IsAscending xs → All (λ x. x < y) xs → IsAscending (xs ++ y ∷ [])
-ascending_push xs y up below = all_pairs_push (λ i j. i < j) xs y up below
 
 pub distinct_absent : (xs : List ℕ) → IsAscending xs → HaveDistinctVariables (map absent xs)
 unfolding variable_of
@@ -101,9 +86,3 @@ present_or_is others at fact lesser greater start one two all l g none e f h =
     let joined = map-append present (take at others) (fact ∷ drop at others) in
     let grouped = append_assoc (map present lesser) (present fact ∷ []) (map present greater) in
     cc
-
-pub one_of : (x y : ℕ) → Contains (x ∷ []) y → y ≡ x
-one_of x y m = elim (Contains-cases x [] y m) [ inl e ↦ sym e | inr n ↦ absurd (Contains-nil y n) ]
-
-pub one_of_two : (x y z : ℕ) → Contains (x ∷ y ∷ []) z → (z ≡ x) ⊎ (z ≡ y)
-one_of_two x y z m = elim (Contains-cases x (y ∷ []) z m) [ inl e ↦ inl (sym e) | inr n ↦ inr (one_of y z n) ]

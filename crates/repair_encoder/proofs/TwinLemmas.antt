@@ -10,11 +10,14 @@ use Rattle.cq_meaning.proofs.Members.{Contains-head, Contains-later}
 use Rattle.cq_terms.specs.Conflicts.{ConflictGraph, AreInConflict, AreClashes}
 use Rattle.cq_terms.specs.Lists.{IsAscending}
 use Rattle.priority_graph.specs.Priority.{Priority, IsOver, Conflict, AreBlockers}
-use Rattle.repair_encoder.specs.BaseClauses.{present, absent, conflict_clause, conflict_clauses, IsBlockingClause, IsFactClause}
-use Rattle.repair_encoder.specs.Components.{IsClosedUnder}
+use Rattle.repair_clauses.specs.BaseClauses.{present, absent, conflict_clause, IsBlockingClause, IsFactClause}
+use Rattle.repair_encoder.specs.Forms.{conflict_clauses}
+use Rattle.repair_clauses.specs.Components.{IsClosedUnder}
 use Rattle.repair_encoder.specs.Twins.{SpeaksOf, AreTwins, HasLesserTwin, PushesFact}
-use Rattle.repair_encoder.proofs.ListLemmas.{get_or-map_in, rising, one_of, one_of_two}
-use Rattle.repair_encoder.proofs.BaseLemmas.{IsBuilt, conflict_over, conflict_clauses_to, built_more, pushed_clause}
+use Rattle.repair_clauses.proofs.ListLemmas.{get_or-map_in, one_of, one_of_two}
+use Rattle.repair_encoder.proofs.ListLemmas.{rising}
+use Rattle.priority_graph.proofs.DirectLemmas.{conflict_over}
+use Rattle.repair_encoder.proofs.BaseLemmas.{IsBuilt, conflict_clauses_to, built_more, pushed_clause}
 
 -- ---- lists
 

@@ -1,21 +1,15 @@
 -- The walk over a component: one fact seen, the facts of one step, one more step, and the end.
-use Rattle.std.proofs.Common.{◌≡◌, ◌≢◌, ◌<◌, ◌≤◌, ◌+◌, ◌⊎◌, inl, inr, ◌↔◌, ℕ, zero, suc, Bool, true, false, List, [], ◌∷◌, ◌++◌, length, take, set, get_or, eqb, refl, sym, ap, ◌∙◌, subst, arith, Contains, All, length-append, append_assoc, get_or-set_other, get_or-set_same}
-use Rattle.std.specs.List.{AllPairs}
-use Rattle.std.specs.List.Sorted.{IsPermutation, IsNonDecreasing}
-use Rattle.std.proofs.lemmas.Bool.{cases_eq, true≢false, eq-eqb, ne_eqb}
+use Rattle.std.proofs.Common.{◌≡◌, ◌≢◌, ◌<◌, ◌≤◌, ◌+◌, ◌⊎◌, inl, inr, ◌↔◌, ℕ, suc, Bool, true, false, List, [], ◌∷◌, ◌++◌, length, take, set, get_or, refl, sym, ap, ◌∙◌, subst, arith, Contains, All, length-append, append_assoc, get_or-set_other, get_or-set_same}
+use Rattle.std.proofs.lemmas.Bool.{cases_eq, true≢false}
 use Rattle.std.proofs.lemmas.List.{take_more, take_all, take-append-le, append-nil, length-set}
 use Rattle.std.proofs.lemmas.List.Elements.{All-contains, All-push, All-weaker, Contains-get_or, Contains-append_left, Contains-append_right, Contains-append_cases, Contains-push, Contains-push_cases}
 use Rattle.std.proofs.lemmas.List.Quantifiers.{all_pairs_push}
-use Rattle.std.proofs.lemmas.List.Kept.{AllPairs-from_increasing}
-use Rattle.std.proofs.lemmas.List.Sorted.{Contains-permutation, IsPermutation-sym}
-use Rattle.std.proofs.lemmas.Bool.Decides.{Decides-eqb}
-use Rattle.std.proofs.lemmas.Map.Keys.{IsStrictlyIncreasing-from_distinct, IsDistinct-IsPermutation}
-use Rattle.std.proofs.lemmas.Map.Made.{IsDistinct-from_AllPairs}
 use Rattle.cq_meaning.proofs.Ascending.{All-of}
 use Rattle.cq_meaning.proofs.Members.{Contains-head, Contains-cases, Contains-nil}
 use Rattle.cq_terms.specs.Conflicts.{ConflictGraph, AreInConflict}
 use Rattle.priority_graph.proofs.CountLemmas.{distinct_length}
-use Rattle.repair_encoder.specs.Components.{IsClosedUnder, IsReachedIn, IsReached, IsComponent}
+use Rattle.repair_clauses.specs.Components.{IsClosedUnder, IsReached, IsComponent}
+use Rattle.repair_clauses.proofs.LawLemmas.{reached_inside}
 use Rattle.repair_encoder.specs.Walks.{AreSeen, Visits}
 use Rattle.cq_terms.specs.Lists.{IsSorted}
 
@@ -152,10 +146,6 @@ walked_few g start next seen reached w = omega (arith, distinct_length (length s
 pub walked_closed : (g : ConflictGraph) (start next : ℕ) (seen : List Bool) (reached : List ℕ) → IsWalked g start next seen reached → length reached ≤ next → IsClosedUnder (AreInConflict g.clashes) (Contains reached)
 walked_closed g start next seen reached w l i j m c = w.done i (subst (λ (xs : List ℕ). Contains xs i) (sym (take_all next reached l)) m) j c
 
-reached_inside : (g : ConflictGraph) (start : ℕ) (S : ℕ → Type 0) → IsClosedUnder (AreInConflict g.clashes) S → S start → (n j : ℕ) → IsReachedIn g n start j → S j
-reached_inside g start S closed s zero j e = subst S e s
-reached_inside g start S closed s (suc n) j (l, r, c) = closed l j (reached_inside g start S closed s n l r) c
-
 -- in ascending order it is the component
 module _ (g : ConflictGraph) (start next : ℕ) (seen : List Bool) (reached : List ℕ) (w : IsWalked g start next seen reached) (l : length reached ≤ next) (facts : List ℕ) (h : IsSorted reached facts) where
   pub walked_component : IsComponent g start facts
@@ -172,13 +162,3 @@ module _ (g : ConflictGraph) (start next : ℕ) (seen : List Bool) (reached : Li
 
   pub component_known : All (λ f. f < g.facts) facts
   component_known = All-of (λ f. f < g.facts) facts (λ f m. subst (λ (n : ℕ). f < n) w.all (All-contains (λ i. i < length seen) reached f w.marks.known ((h.same f).0 m)))
-
--- distinct numbers that are sorted
-eqb-flip : (x y : ℕ) → eqb x y ≡ eqb y x
-eqb-flip x y = elim (cases_eq x y) [ inl e ↦ eq-eqb x y e ∙ sym (eq-eqb y x (sym e)) | inr n ↦ ne_eqb x y n ∙ sym (ne_eqb y x (λ e. n (sym e))) ]
-
-pub sorted_once : (numbers sorted : List ℕ) → AllPairs (λ i j. i ≢ j) numbers → IsPermutation numbers sorted → IsNonDecreasing sorted → IsSorted numbers sorted
-sorted_once numbers sorted once moved up = record {
-  ascending = AllPairs-from_increasing sorted (IsStrictlyIncreasing-from_distinct sorted up (IsDistinct-IsPermutation eqb eqb-flip numbers sorted moved (IsDistinct-from_AllPairs Decides-eqb numbers once)));
-  same = λ i. ((λ m. Contains-permutation _ _ i (IsPermutation-sym _ _ moved) m), (λ m. Contains-permutation _ _ i moved m));
-}

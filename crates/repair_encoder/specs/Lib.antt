@@ -1,6 +1,3 @@
-pub mod BaseClauses
-pub mod CauseClauses
-pub mod Components
-pub mod Laws
+pub mod Forms
 pub mod Twins
 pub mod Walks

@@ -1,7 +1,7 @@
 -- Facts that share one clause: each blocks the other, and any other fact blocks both or neither.
 use Rattle.std.specs.Prelude.{◌≡◌, ℕ, ◌<◌, ◌⊎◌, ◌↔◌, List, [], ◌∷◌, ◌++◌}
 use Rattle.priority_graph.specs.Priority.{Priority}
-use Rattle.repair_encoder.specs.BaseClauses.{Blocks, IsFactClause}
+use Rattle.repair_clauses.specs.BaseClauses.{Blocks, IsFactClause}
 
 -- the clause of the fact speaks of the other one: they are the same, or the other one blocks the fact
 abbrev pub SpeaksOf : Priority → ℕ → ℕ → Type 0

@@ -4,8 +4,9 @@ ghost use Rattle.std.specs.Prelude.{◌≡◌, ◌≢◌, ◌↔◌, ◌<◌, �
 ghost use Rattle.cq_terms.specs.Conflicts.{AreClashes, AreInConflict};
 ghost use Rattle.cq_terms.specs.Lists.{IsAscending};
 ghost use Rattle.priority_graph.specs.Priority.{IsOver};
-ghost use Rattle.repair_encoder.specs.BaseClauses.{HasForm, IsBaseClause, IsFactClause, SaysOneIsPresent, absent, conflict_clause, conflict_clauses};
-ghost use Rattle.repair_encoder.specs.Components.{IsClosedUnder};
+ghost use Rattle.repair_clauses.specs.BaseClauses.{IsBaseClause, IsFactClause, absent, conflict_clause};
+ghost use Rattle.repair_encoder.specs.Forms.{HasForm, SaysOneIsPresent, conflict_clauses};
+ghost use Rattle.repair_clauses.specs.Components.{IsClosedUnder};
 ghost use Rattle.repair_encoder.specs.Twins.{PushesFact};
 
 use crate::literals::push_present;
@@ -14,9 +15,29 @@ use cq_terms::{Conflicts, IdLists, Ids, NoMemory};
 use priority_graph::Better;
 use std::alloc::Global;
 
-/// The base clauses of the facts: for each conflict that one of the two is absent; for each fact that it is absent where it is
-/// self-inconsistent, and else that it is present or a fact that blocks it is (Bienvenu and Bourgaux 2022).
+/// The base clauses of the facts, which may come in any order and more than once: for each conflict that one of the two is absent;
+/// for each fact that it is absent where it is self-inconsistent, and else that it is present or a fact that blocks it is (Bienvenu
+/// and Bourgaux 2022).
 pub fn base_clauses(
+    alloc: Global,
+    conflicts: &Conflicts,
+    better: &Better,
+    facts: &[u32],
+) -> Result<IdLists, NoMemory>
+    requires over { IsOver better.now conflicts.now }
+    requires known { All (λ f. f < conflicts.now.facts) facts.now }
+    requires closed { IsClosedUnder (AreInConflict conflicts.now.clashes) (Contains facts.now) }
+
+    ensures once { IfOk result (AllPairs (λ c d. c ≢ d)) }
+    ensures form { IfOk result (All (HasForm facts.now)) }
+    ensures exact { IfOk result (λ clauses. (c : List ℕ) → Contains clauses c ↔ IsBaseClause better.now (Contains facts.now) c) }
+{
+    let ascending = Ids::sorted(alloc, facts)?;
+    clauses_of_ascending(alloc, conflicts, better, ascending.as_slice())
+}
+
+/// The base clauses of ascending facts.
+fn clauses_of_ascending(
     alloc: Global,
     conflicts: &Conflicts,
     better: &Better,

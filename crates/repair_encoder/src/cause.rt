@@ -3,7 +3,7 @@
 ghost use Rattle.std.specs.Prelude.{◌≡◌, ◌<◌, ◌^◌, IfOk, All};
 ghost use Rattle.clause_meaning.specs.Literals.{HaveDistinctVariables};
 ghost use Rattle.cq_terms.specs.Lists.{IsAscending};
-ghost use Rattle.repair_encoder.specs.CauseClauses as clauses;
+ghost use Rattle.repair_clauses.specs.CauseClauses as clauses;
 
 use crate::literals::push_absent;
 use cq_terms::{Ids, NoMemory};

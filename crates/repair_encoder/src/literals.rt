@@ -1,7 +1,7 @@
 //! Literals of many facts at once.
 
 ghost use Rattle.std.specs.Prelude.{◌≡◌, ◌<◌, ◌^◌, ◌++◌, map, All, OnOk};
-ghost use Rattle.repair_encoder.specs.BaseClauses.{absent, present};
+ghost use Rattle.repair_clauses.specs.BaseClauses.{absent, present};
 
 use cq_terms::{Ids, NoMemory};
 

@@ -2,9 +2,8 @@
 
 ghost use Rattle.std.specs.Prelude.{◌≡◌, ◌≢◌, ◌<◌, ◌∷◌, [], length, All, AllPairs, Contains, IfOk, OnOk, false, replicate, slice_index};
 ghost use Rattle.cq_terms.specs.Conflicts.{AreInConflict};
-ghost use Rattle.repair_encoder.specs.Components.{IsClosedUnder, IsComponent};
+ghost use Rattle.repair_clauses.specs.Components.{IsClosedUnder, IsComponent};
 ghost use Rattle.repair_encoder.specs.Walks.{AreSeen, Visits};
-ghost use Rattle.cq_terms.specs.Lists.{IsSorted};
 
 use cq_terms::{Conflicts, Ids, NoMemory};
 use std::alloc::Global;
@@ -28,7 +27,8 @@ pub fn component(alloc: Global, conflicts: &Conflicts, fact: u32) -> Result<Ids,
         walk.visit(conflicts.of(walk.at(next)))?;
         next += 1;
     }
-    sorted(alloc, walk.reached)
+    let reached = walk.reached;
+    Ids::sorted(alloc, reached.as_slice())
 }
 
 /// A walk over facts, each of which is marked once it is reached.
@@ -94,18 +94,4 @@ fn unmarked(alloc: Global, facts: u32) -> Result<Vec<bool>, NoMemory>
 {
     let marks = vec![in alloc; false; facts as usize]?;
     Ok(marks)
-}
-
-/// The numbers in ascending order.
-fn sorted(alloc: Global, mut numbers: Vec<u32>) -> Result<Ids, NoMemory>
-    requires once { AllPairs (λ i j. i ≢ j) numbers.items }
-
-    ensures exact { IfOk result (IsSorted numbers.items) }
-{
-    numbers.sort_unstable();
-    let mut ids = Ids::new(alloc);
-    for number in numbers.as_slice() {
-        ids.push(*number)?;
-    }
-    Ok(ids)
 }

@@ -4,7 +4,7 @@ ghost use Rattle.std.specs.Prelude.{◌≡◌, ◌<◌, ◌∷◌, [], IfOk};
 ghost use Rattle.priority_graph.specs.Priority.{IsOver};
 
 use crate::{base_clauses, cause_clause, component};
-use cq_terms::{Clash, Conflicts, Ids, NoMemory, Pair};
+use cq_terms::{Clash, Conflicts, IdLists, Ids, NoMemory, Pair};
 use priority_graph::{Better, restrict};
 use std::alloc::Global;
 use std::test::Fail;
@@ -55,6 +55,18 @@ fn a_fact_without_conflict_has_one_clause(rt: HostRuntime) -> Result<(), Fail> {
 }
 
 #[test]
+fn repeats_and_another_order_of_the_facts_play_no_part(rt: HostRuntime) -> Result<(), Fail> {
+    let conflicts = seven_facts(rt.alloc())?;
+    let better = Better::none(rt.alloc(), &conflicts)?;
+    let row = clauses_of_twice(rt.alloc(), &conflicts, &better, 2)?;
+    assert_eq!(rt;
+        row.as_slice(),
+        [0, 2, END, 1, 3, END, 0, 2, 4, END, 3, 5, END, 2, 4, END].as_slice()
+    );
+    Ok(())
+}
+
+#[test]
 fn a_component_has_what_conflicts_reach(rt: HostRuntime) -> Result<(), Fail> {
     let conflicts = seven_facts(rt.alloc())?;
     assert_eq!(rt;
@@ -85,7 +97,7 @@ fn a_cause_is_excluded_by_its_selector(rt: HostRuntime) -> Result<(), Fail> {
     Ok(())
 }
 
-/// The base clauses of the component of the fact in a row, each with `END` behind it.
+/// The base clauses of the component of the fact in a row.
 fn clauses_of(
     alloc: Global,
     conflicts: &Conflicts,
@@ -97,6 +109,28 @@ fn clauses_of(
 {
     let facts = component(alloc, conflicts, fact)?;
     let clauses = base_clauses(alloc, conflicts, better, facts.as_slice())?;
+    row_of(alloc, &clauses)
+}
+
+/// The same of the facts of the component written twice, one row behind the other.
+fn clauses_of_twice(
+    alloc: Global,
+    conflicts: &Conflicts,
+    better: &Better,
+    fact: u32,
+) -> Result<Vec<u32>, NoMemory>
+    requires over { IsOver better.now conflicts.now }
+    requires known { fact < conflicts.now.facts }
+{
+    let facts = component(alloc, conflicts, fact)?;
+    let mut listed = Vec::from_slice(alloc, facts.as_slice())?;
+    listed.extend_from_slice(facts.as_slice())?;
+    let clauses = base_clauses(alloc, conflicts, better, listed.as_slice())?;
+    row_of(alloc, &clauses)
+}
+
+/// The literals of the clauses in a row, each clause with `END` behind it.
+fn row_of(alloc: Global, clauses: &IdLists) -> Result<Vec<u32>, NoMemory> {
     let mut joined = Vec::new(alloc);
     for clause in clauses.as_slice() {
         joined.extend_from_slice(clause.as_slice())?;

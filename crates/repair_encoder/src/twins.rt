@@ -4,6 +4,7 @@ ghost use Rattle.std.specs.Prelude.{◌≡◌, ◌⊎◌, ◌↔◌, ◌<◌, �
 ghost use Rattle.cq_terms.specs.Lists.{IsAscending};
 ghost use Rattle.repair_encoder.specs.Twins.{AreTwins, HasLesserTwin, SpeaksOf};
 
+use cq_terms::has_sorted;
 use priority_graph::Better;
 
 /// Whether a lesser fact shares the clause of the fact: so it is where two facts block each other and have the same further
@@ -59,5 +60,5 @@ fn is_of(list: &[u32], given: u32, number: u32) -> bool
     if number == given {
         return true;
     }
-    list.binary_search(&number).is_ok()
+    has_sorted(list, number)
 }

@@ -19,8 +19,8 @@ use Rattle.cq_steps.specs.declared.moves.Move.{Move}
 use Rattle.priority_graph.specs.Priority.{Priority}
 use Rattle.priority_graph.specs.Split.{has}
 use Rattle.priority_graph.specs.Inputs.{IsPriorityOf}
-use Rattle.repair_encoder.specs.BaseClauses.{present, absent}
-use Rattle.repair_encoder.proofs.LawLemmas.{variable_of-present, variable_of-absent}
+use Rattle.repair_clauses.specs.BaseClauses.{present, absent}
+use Rattle.repair_clauses.proofs.LiteralLemmas.{variable_of-present, variable_of-absent}
 use Rattle.report_text.specs.declared.line.Line.{Line}
 use Rattle.report_text.specs.declared.line.Line.TheVariants as line
 use Rattle.report_text.specs.declared.line.Origin.{Origin}

@@ -14,7 +14,7 @@ use Rattle.priority_graph.specs.Priority.{Priority}
 use Rattle.priority_graph.specs.Inputs.{IsPriorityOf}
 use Rattle.cq_meaning.specs.ConflictGraphs.{AreConflictsOf}
 use Rattle.priority_graph.proofs.InputLemmas.{empty_is_all}
-use Rattle.repair_encoder.specs.Components.{IsReachedIn}
+use Rattle.repair_clauses.specs.Components.{IsReachedIn}
 use Rattle.report_rules.specs.ConflictLists.{IsLinkedIn, IsInComponents, IsInConflict, AreConflictFacts}
 use Rattle.report_laws.specs.Scopes.{AreComponents}
 use Rattle.report_laws.specs.Bounds.{IsReachedFrom, HasRival, GraphTells}

@@ -9,8 +9,8 @@ use Rattle.cq_meaning.proofs.Members.{Contains-head, Contains-later, Contains-ca
 use Rattle.clause_meaning.specs.Literals.{variable_of, HaveDistinctVariables}
 use Rattle.priority_graph.specs.Split.{has}
 use Rattle.priority_graph.proofs.SplitLemmas.{has_true, has_there}
-use Rattle.repair_encoder.specs.BaseClauses.{present, absent}
-use Rattle.repair_encoder.proofs.LawLemmas.{variable_of-present, variable_of-absent}
+use Rattle.repair_clauses.specs.BaseClauses.{present, absent}
+use Rattle.repair_clauses.proofs.LiteralLemmas.{variable_of-present, variable_of-absent}
 use Rattle.report_laws.proofs.ListLemmas.{AllPairs-head, AllPairs-tail}
 
 -- ---- clauses as numbers

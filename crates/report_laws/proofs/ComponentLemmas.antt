@@ -4,8 +4,8 @@ use Rattle.cq_terms.specs.declared.axioms.Axiom.{Axiom}
 use Rattle.cq_meaning.specs.Rewriting.{IsClosure}
 use Rattle.clause_meaning.specs.Literals.{variable_of}
 use Rattle.priority_graph.specs.Split.{has}
-use Rattle.repair_encoder.specs.BaseClauses.{present, absent}
-use Rattle.repair_encoder.proofs.LawLemmas.{variable_of-present, variable_of-absent}
+use Rattle.repair_clauses.specs.BaseClauses.{present, absent}
+use Rattle.repair_clauses.proofs.LiteralLemmas.{variable_of-present, variable_of-absent}
 use Rattle.report_text.specs.declared.line.Line.{Line}
 use Rattle.report_text.specs.declared.line.Line.TheVariants as line
 use Rattle.report_text.specs.declared.line.Origin.TheVariants as origin

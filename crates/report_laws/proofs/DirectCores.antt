@@ -13,7 +13,7 @@ use Rattle.cq_meaning.proofs.Listed.{all_or_some}
 use Rattle.priority_graph.specs.Split.{has}
 use Rattle.priority_graph.specs.Inputs.{AreRivals}
 use Rattle.priority_graph.proofs.SplitLemmas.{has_true, has_there}
-use Rattle.repair_encoder.specs.BaseClauses.{present, absent}
+use Rattle.repair_clauses.specs.BaseClauses.{present, absent}
 use Rattle.report_rules.specs.Clauses.{IsBaseClause}
 use Rattle.report_rules.specs.TryRules.{HasDirectCore}
 use Rattle.report_laws.proofs.ListLemmas.{only_one}

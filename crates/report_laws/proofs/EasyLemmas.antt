@@ -13,7 +13,7 @@ use Rattle.cq_meaning.proofs.ByLists.{Conflict-within}
 use Rattle.cq_meaning.proofs.Ascending.{All-of}
 use Rattle.clause_meaning.specs.Literals.{opposite_of}
 use Rattle.clause_meaning.specs.Refutation.{Refutes}
-use Rattle.repair_encoder.specs.BaseClauses.{present, absent}
+use Rattle.repair_clauses.specs.BaseClauses.{present, absent}
 use Rattle.report_text.specs.declared.line.Line.{Line}
 use Rattle.report_text.specs.declared.line.Line.TheVariants as line
 use Rattle.report_text.specs.declared.line.Question.{Question}

@@ -15,8 +15,8 @@ use Rattle.clause_meaning.proofs.Chains.{Reaches-forced}
 use Rattle.clause_meaning.proofs.LiteralLaws.{same_variable}
 use Rattle.priority_graph.specs.Split.{has}
 use Rattle.priority_graph.proofs.SplitLemmas.{has_there}
-use Rattle.repair_encoder.specs.BaseClauses.{present, absent}
-use Rattle.repair_encoder.proofs.LawLemmas.{variable_of-present, variable_of-absent}
+use Rattle.repair_clauses.specs.BaseClauses.{present, absent}
+use Rattle.repair_clauses.proofs.LiteralLemmas.{variable_of-present, variable_of-absent}
 use Rattle.report_rules.specs.Inputs.{AreFacts, selector_of}
 use Rattle.report_rules.specs.ConflictLists.{IsInConflict}
 use Rattle.report_rules.specs.Clauses.{IsBaseClause}

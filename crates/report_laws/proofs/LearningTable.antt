@@ -25,8 +25,8 @@ use Rattle.priority_graph.specs.Priority.{Priority, IsBetter}
 use Rattle.priority_graph.specs.Inputs.{IsPriorityOf}
 use Rattle.priority_graph.specs.Split.{has}
 use Rattle.priority_graph.proofs.SplitLemmas.{has_there}
-use Rattle.repair_encoder.specs.BaseClauses.{Blocks, IsBlockingClause, IsFactClause, conflict_clause, present}
-use Rattle.repair_encoder.proofs.BaseLemmas.{fact_clause_unique}
+use Rattle.repair_clauses.specs.BaseClauses.{Blocks, IsBlockingClause, IsFactClause, conflict_clause, present}
+use Rattle.repair_clauses.proofs.LawLemmas.{fact_clause_unique}
 use Rattle.report_rules.specs.ConflictLists.{AreConflictLists}
 use Rattle.report_laws.specs.LiveLists.{IsClauseOf, AreClausesBelow, AreBaseClauses}
 use Rattle.report_laws.specs.LearningExample.{crowded_register}

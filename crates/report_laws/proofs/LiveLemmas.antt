@@ -14,8 +14,8 @@ use Rattle.clause_meaning.specs.Assignments.{Satisfies, SatisfiesAll}
 use Rattle.clause_meaning.proofs.Members.{Contains-map}
 use Rattle.clause_meaning.proofs.Truth.{following_is_true}
 use Rattle.priority_graph.specs.Split.{has}
-use Rattle.repair_encoder.specs.BaseClauses.{absent}
-use Rattle.repair_encoder.specs.CauseClauses.{cause_clause}
+use Rattle.repair_clauses.specs.BaseClauses.{absent}
+use Rattle.repair_clauses.specs.CauseClauses.{cause_clause}
 use Rattle.report_text.specs.declared.line.Line.{Line}
 use Rattle.report_text.specs.declared.line.Line.TheVariants as line
 use Rattle.report_text.specs.declared.line.Verdict.{Verdict}
@@ -29,7 +29,7 @@ use Rattle.report_laws.specs.Readings.{Reads}
 use Rattle.report_laws.specs.Scopes.{goes_beyond}
 use Rattle.report_laws.specs.OpenAnswers.{start_of, IsRightAnswer, IsInPlace, HoldInChosen, LearnedHold, CoresHold}
 use Rattle.report_laws.proofs.ListLemmas.{Contains-filter}
-use Rattle.report_laws.proofs.LiteralLemmas.{absent_true}
+use Rattle.repair_clauses.proofs.LiteralLemmas.{absent_true}
 use Rattle.report_laws.proofs.BaseClauseLemmas.{base_true, agree_chosen}
 use Rattle.report_laws.proofs.CauseLemmas.{Has, Misses, has_or_misses, misses_or_has, listed_within, cause_entails, entails_cause}
 

@@ -18,11 +18,11 @@ use Rattle.clause_meaning.proofs.LiteralLaws.{opposite_of-opposite_of}
 use Rattle.clause_meaning.proofs.Members.{Contains-map, Contains-map_cases}
 use Rattle.priority_graph.specs.Priority.{Priority}
 use Rattle.priority_graph.specs.Inputs.{IsPriorityOf}
-use Rattle.repair_encoder.specs.BaseClauses as encoder
-use Rattle.repair_encoder.specs.BaseClauses.{AllFacts, Blocks, IsBlockingClause, IsFactClause, conflict_clause, present, absent}
-use Rattle.repair_encoder.specs.CauseClauses.{cause_clause}
-use Rattle.repair_encoder.proofs.BaseLemmas.{fact_clause_unique}
-use Rattle.repair_encoder.proofs.ListLemmas.{ascending_map}
+use Rattle.repair_clauses.specs.BaseClauses as over_priority
+use Rattle.repair_clauses.specs.BaseClauses.{AllFacts, Blocks, IsBlockingClause, IsFactClause, conflict_clause, present, absent}
+use Rattle.repair_clauses.specs.CauseClauses.{cause_clause}
+use Rattle.repair_clauses.proofs.LawLemmas.{fact_clause_unique}
+use Rattle.repair_clauses.proofs.ListLemmas.{ascending_map}
 use Rattle.report_text.specs.declared.line.Line.{Line}
 use Rattle.report_rules.specs.Inputs.{selector_of}
 use Rattle.report_rules.specs.Clauses.{IsBaseClause}
@@ -41,7 +41,7 @@ module _ (kb : Knowledge) (mode : Repairs) (p : Priority) (of : IsPriorityOf kb 
   clause_of_fact : (c : List ℕ) → IsBaseClause kb mode c → (fact : ℕ) × (fact < length kb.facts) × IsClauseOf p fact c
   clause_of_fact c base = go ((base_of_priority kb mode p of c).0 base)
     where
-      go : encoder.IsBaseClause p (AllFacts p) c → (fact : ℕ) × (fact < length kb.facts) × IsClauseOf p fact c
+      go : over_priority.IsBaseClause p (AllFacts p) c → (fact : ℕ) × (fact < length kb.facts) × IsClauseOf p fact c
       go (inl (a, s, (b, r, m, e))) = (a, subst (λ n. a < n) of.facts s, inr (b, m, e))
       go (inr (f, s, w)) = (f, subst (λ n. f < n) of.facts s, inl w)
 
@@ -51,7 +51,7 @@ module _ (kb : Knowledge) (mode : Repairs) (p : Priority) (of : IsPriorityOf kb 
       below : f < p.facts
       below = subst (λ n. f < n) (sym of.facts) l
 
-      go : IsClauseOf p f c → encoder.IsBaseClause p (AllFacts p) c
+      go : IsClauseOf p f c → over_priority.IsBaseClause p (AllFacts p) c
       go (inl w) = inr (f, below, w)
       go (inr (b, m, e)) =
           let x = (of.conflicts.pairs_exact f b).0 m in

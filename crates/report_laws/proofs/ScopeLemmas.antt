@@ -19,11 +19,12 @@ use Rattle.priority_graph.specs.Priority.{Priority}
 use Rattle.priority_graph.specs.Inputs.{IsPriorityOf}
 use Rattle.priority_graph.specs.Split.{has}
 use Rattle.priority_graph.proofs.SplitLemmas.{has_true, has_there}
-use Rattle.repair_encoder.specs.BaseClauses as encoder
-use Rattle.repair_encoder.specs.BaseClauses.{AllFacts, present, absent}
-use Rattle.repair_encoder.specs.Components.{IsClosedUnder}
-use Rattle.repair_encoder.proofs.LawLemmas.{variable_of-present, variable_of-absent, closed_sets_separate}
-use Rattle.repair_encoder.proofs.ListLemmas.{one_of, one_of_two, ascending_push}
+use Rattle.repair_clauses.specs.BaseClauses as over_priority
+use Rattle.repair_clauses.specs.BaseClauses.{AllFacts, present, absent}
+use Rattle.repair_clauses.specs.Components.{IsClosedUnder}
+use Rattle.repair_clauses.proofs.LawLemmas.{base_wider, base_within, closed_sets_separate}
+use Rattle.repair_clauses.proofs.LiteralLemmas.{variable_of-present, variable_of-absent}
+use Rattle.repair_clauses.proofs.ListLemmas.{one_of, ascending_push}
 use Rattle.report_text.specs.declared.line.Question.{Question}
 use Rattle.report_text.specs.declared.line.Question.TheVariants as question
 use Rattle.report_rules.specs.Inputs.{AreFacts, selector_of}
@@ -32,7 +33,7 @@ use Rattle.report_rules.specs.Clauses.{IsBaseClause, IsCauseClause}
 use Rattle.report_rules.specs.Tries.{Asked}
 use Rattle.report_rules.specs.TryRules.{MayAssume}
 use Rattle.report_laws.specs.Scopes.{scope_of, IsScope, AreComponents, IsApart, goes_beyond, KeepsTo}
-use Rattle.report_laws.proofs.BaseClauseLemmas.{means}
+use Rattle.report_laws.proofs.BaseClauseLemmas.{means, input_of_table}
 use Rattle.report_laws.proofs.LiveLemmas.{no_fact, on_facts}
 
 -- ---- facts, selectors and scopes
@@ -85,27 +86,7 @@ base_apart kb mode clause (p, of, base) facts closed =
 
 -- and over facts alone
 pub base_known : (kb : Knowledge) (mode : Repairs) (clause : List ℕ) → IsBaseClause kb mode clause → (l : ℕ) → Contains clause l → variable_of l < length kb.facts
-base_known kb mode clause (p, of, base) l m = go base
-  where
-    fact : (i : ℕ) → i < p.facts → i < length kb.facts
-    fact i k = subst (λ n. i < n) of.facts k
-
-    by_absent : (i : ℕ) → i < length kb.facts → l ≡ absent i → variable_of l < length kb.facts
-    by_absent i k e = subst (λ x. x < length kb.facts) (sym (ap variable_of e ∙ variable_of-absent i)) k
-
-    by_present : (i : ℕ) → i < length kb.facts → l ≡ present i → variable_of l < length kb.facts
-    by_present i k e = subst (λ x. x < length kb.facts) (sym (ap variable_of e ∙ variable_of-present i)) k
-
-    go : encoder.IsBaseClause p (AllFacts p) clause → variable_of l < length kb.facts
-    go (inl (a, s, (b, r, c, e))) = elim (one_of_two (absent a) (absent b) l (subst (λ (xs : List ℕ). Contains xs l) e m)) [
-      | inl h ↦ by_absent a (fact a s) h
-      | inr h ↦ by_absent b (fact b r) h
-    ]
-    go (inr (f, s, inl (o, e))) = by_absent f (fact f s) (one_of (absent f) l (subst (λ (xs : List ℕ). Contains xs l) e m))
-    go (inr (f, s, inr (n, b))) = let (g, x, e) = (b.exact l).0 m in elim x [
-      | inl h ↦ by_present g (subst (λ z. z < length kb.facts) (sym h) (fact f s)) e
-      | inr h ↦ by_present g (second kb f g (((means kb mode p of).conflict f g).0 h.0)) e
-    ]
+base_known kb mode clause (p, of, base) l m = subst (λ n. variable_of l < n) of.facts (base_within p (AllFacts p) (λ i j s c. (input_of_table kb mode p of).conflict i j c) clause base l m)
 
 -- ---- the scope of a candidate
 
@@ -137,29 +118,11 @@ module _ (kb : Knowledge) (a : Asked) (facts : List ℕ) (scope : IsScope kb a.c
   apart_sided clause h = h (scope_of kb a facts) scope_closed
 
   -- the base clauses of its facts are base clauses inside it
-  pub base_inside : (mode : Repairs) (p : Priority) → IsPriorityOf kb mode p → (clause : List ℕ) → encoder.IsBaseClause p (Contains facts) clause → IsBaseClause kb mode clause × IsInside (has (scope_of kb a facts)) clause
-  base_inside mode p of clause base = ((p, of, widened base), inside base)
-    where
-      below : (i : ℕ) → Contains facts i → i < p.facts
-      below i m = subst (λ n. i < n) (sym of.facts) (known i m)
-
-      widened : encoder.IsBaseClause p (Contains facts) clause → encoder.IsBaseClause p (AllFacts p) clause
-      widened (inl (x, s, (y, r, m, e))) = inl (x, below x s, (y, below y r, m, e))
-      widened (inr (f, s, c)) = inr (f, below f s, c)
-
-      by_absent : (i l : ℕ) → Contains facts i → l ≡ absent i → has (scope_of kb a facts) (variable_of l) ≡ true
-      by_absent i l m e = inside_by (scope_of kb a facts) i l (of_fact i m) (ap variable_of e ∙ variable_of-absent i)
-
-      by_present : (i l : ℕ) → Contains facts i → l ≡ present i → has (scope_of kb a facts) (variable_of l) ≡ true
-      by_present i l m e = inside_by (scope_of kb a facts) i l (of_fact i m) (ap variable_of e ∙ variable_of-present i)
-
-      inside : encoder.IsBaseClause p (Contains facts) clause → IsInside (has (scope_of kb a facts)) clause
-      inside (inl (x, s, (y, r, m, e))) l k = elim (one_of_two (absent x) (absent y) l (subst (λ (xs : List ℕ). Contains xs l) e k)) [ inl h ↦ by_absent x l s h | inr h ↦ by_absent y l r h ]
-      inside (inr (f, s, inl (o, e))) l k = by_absent f l s (one_of (absent f) l (subst (λ (xs : List ℕ). Contains xs l) e k))
-      inside (inr (f, s, inr (n, b))) l k = let (g, x, e) = (b.exact l).0 k in elim x [
-        | inl h ↦ by_present g l (subst (Contains facts) (sym h) s) e
-        | inr h ↦ by_present g l (scope.closed f g s (((means kb mode p of).conflict f g).0 h.0)) e
-      ]
+  pub base_inside : (mode : Repairs) (p : Priority) → IsPriorityOf kb mode p → (clause : List ℕ) → over_priority.IsBaseClause p (Contains facts) clause → IsBaseClause kb mode clause × IsInside (has (scope_of kb a facts)) clause
+  base_inside mode p of clause base = (
+    (p, of, base_wider p (Contains facts) (AllFacts p) clause (λ i m. subst (λ n. i < n) (sym of.facts) (known i m)) base),
+    (λ l k. has_true (scope_of kb a facts) (variable_of l) (of_fact (variable_of l) (base_within p (Contains facts) (λ i j s c. scope.closed i j s (((means kb mode p of).conflict i j).0 c)) clause base l k))),
+  )
 
   -- the clauses of the causes are inside
   pub causes_inside : (clause : List ℕ) → IsCauseClause (selector_of kb a.candidate) a.causes clause → IsInside (has (scope_of kb a facts)) clause

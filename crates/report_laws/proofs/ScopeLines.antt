@@ -7,8 +7,8 @@ use Rattle.clause_meaning.specs.Literals.{variable_of}
 use Rattle.clause_meaning.specs.Assignments.{Separates}
 use Rattle.clause_meaning.proofs.Members.{Contains-map_cases}
 use Rattle.priority_graph.specs.Split.{has}
-use Rattle.repair_encoder.specs.BaseClauses.{present, absent}
-use Rattle.repair_encoder.proofs.LawLemmas.{variable_of-present, variable_of-absent}
+use Rattle.repair_clauses.specs.BaseClauses.{present, absent}
+use Rattle.repair_clauses.proofs.LiteralLemmas.{variable_of-present, variable_of-absent}
 use Rattle.report_text.specs.declared.line.Line.{Line}
 use Rattle.report_text.specs.declared.line.Line.TheVariants as line
 use Rattle.report_text.specs.declared.line.Verdict.{Verdict}

@@ -6,7 +6,7 @@ use Rattle.std.proofs.lemmas.List.Elements.{Contains-append_left, Contains-appen
 use Rattle.cq_meaning.proofs.Listed.{append_cases}
 use Rattle.clause_meaning.specs.Refutation.{IsWithin}
 use Rattle.priority_graph.specs.Split.{has}
-use Rattle.repair_encoder.specs.BaseClauses.{present, absent}
+use Rattle.repair_clauses.specs.BaseClauses.{present, absent}
 use Rattle.report_text.specs.declared.line.Line.{Line}
 use Rattle.report_text.specs.declared.line.Line.TheVariants as line
 use Rattle.report_text.specs.declared.line.Question.{Question}

@@ -7,7 +7,7 @@ use Rattle.clause_meaning.specs.Assignments.{IsInside}
 use Rattle.clause_meaning.specs.Refutation.{Refutes}
 use Rattle.clause_meaning.specs.Learning.{OccursIn, IsLearnableIn}
 use Rattle.priority_graph.specs.Split.{has}
-use Rattle.repair_encoder.specs.BaseClauses.{present}
+use Rattle.repair_clauses.specs.BaseClauses.{present}
 use Rattle.report_text.specs.declared.line.Line.{Line}
 use Rattle.report_text.specs.declared.line.Line.TheVariants as line
 use Rattle.report_rules.specs.Inputs.{Input, selector_of}

@@ -8,8 +8,8 @@ use Rattle.cq_meaning.specs.Cores.{IsCore}
 use Rattle.cq_meaning.proofs.Members.{Contains-cases, Contains-nil}
 use Rattle.clause_meaning.specs.Literals.{variable_of}
 use Rattle.priority_graph.specs.Split.{has}
-use Rattle.repair_encoder.specs.BaseClauses.{absent}
-use Rattle.repair_encoder.proofs.LawLemmas.{variable_of-absent}
+use Rattle.repair_clauses.specs.BaseClauses.{absent}
+use Rattle.repair_clauses.proofs.LiteralLemmas.{variable_of-absent}
 use Rattle.report_text.specs.declared.line.Line.{Line}
 use Rattle.report_text.specs.declared.line.Line.TheVariants as line
 use Rattle.report_text.specs.declared.line.Verdict.TheVariants as verdict

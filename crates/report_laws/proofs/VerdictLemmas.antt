@@ -13,7 +13,7 @@ use Rattle.clause_meaning.proofs.Members.{Contains-map_cases}
 use Rattle.clause_meaning.proofs.Truth.{refuted_is_false}
 use Rattle.priority_graph.specs.Split.{has}
 use Rattle.priority_graph.proofs.SplitLemmas.{has_true}
-use Rattle.repair_encoder.specs.BaseClauses.{present, absent}
+use Rattle.repair_clauses.specs.BaseClauses.{present, absent}
 use Rattle.report_text.specs.declared.line.Line.{Line}
 use Rattle.report_text.specs.declared.line.Line.TheVariants as line
 use Rattle.report_text.specs.declared.line.Question.{Question}
@@ -30,7 +30,7 @@ use Rattle.report_laws.specs.OpenAnswers.{IsRightAnswer}
 use Rattle.report_laws.specs.OpenLaws.{RestsOnTruth}
 use Rattle.report_laws.specs.Readings.{Reads, Holds, IsTrueVerdict}
 use Rattle.report_laws.proofs.ListLemmas.{only_one}
-use Rattle.report_laws.proofs.LiteralLemmas.{present_true, absent_true}
+use Rattle.repair_clauses.proofs.LiteralLemmas.{present_true, absent_true}
 use Rattle.report_laws.proofs.CauseLemmas.{listed_within, cause_entails, entails_cause}
 use Rattle.report_laws.proofs.LiveLemmas.{SatisfiesStart, satisfies_live, reading_exists, reading_starts, open_cores}
 

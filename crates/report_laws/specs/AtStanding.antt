@@ -16,7 +16,7 @@ use Rattle.priority_graph.specs.Split.{has}
 use Rattle.priority_graph.specs.Priority.{Priority}
 use Rattle.priority_graph.specs.Cores.{IsCore}
 use Rattle.priority_graph.specs.Inputs.{IsPriorityOf}
-use Rattle.repair_encoder.specs.BaseClauses.{present, absent}
+use Rattle.repair_clauses.specs.BaseClauses.{present, absent}
 use Rattle.cq_terms.specs.declared.axioms.Axiom.{Axiom}
 use Rattle.cq_steps.specs.declared.moves.Move.{Move}
 use Rattle.report_text.specs.declared.line.Line.{Line}

@@ -5,7 +5,7 @@ use Rattle.cq_terms.specs.Knowledge.{Knowledge}
 use Rattle.cq_meaning.specs.Conflicts.{Conflict}
 use Rattle.cq_terms.specs.Lists.{IsAscending}
 use Rattle.cq_meaning.specs.ConflictGraphs.{AreConflictsOf}
-use Rattle.repair_encoder.specs.Components.{IsReached, IsReachedIn}
+use Rattle.repair_clauses.specs.Components.{IsReached, IsReachedIn}
 use Rattle.report_rules.specs.ConflictLists.{IsLinkedIn, AreConflictFacts}
 use Rattle.report_laws.specs.Scopes.{AreComponents}
 

@@ -7,14 +7,14 @@ use Rattle.cq_meaning.specs.Repairs.{IsChosen}
 use Rattle.clause_meaning.specs.Assignments.{SatisfiesAll}
 use Rattle.priority_graph.specs.Priority.{Priority, IsPriority, IsBetter}
 use Rattle.priority_graph.specs.Inputs.{IsPriorityOf}
-use Rattle.repair_encoder.specs.BaseClauses as encoder
-use Rattle.repair_encoder.specs.BaseClauses.{AllFacts}
+use Rattle.repair_clauses.specs.BaseClauses as over_priority
+use Rattle.repair_clauses.specs.BaseClauses.{AllFacts}
 use Rattle.report_rules.specs.Clauses.{IsBaseClause}
 
 -- the base clauses of an input are those of its priority in the mode
 abbrev pub BaseClausesOfPriority : Type 0
 BaseClausesOfPriority = (kb : Knowledge) (mode : Repairs) (p : Priority) → IsPriorityOf kb mode p → (c : List ℕ)
-    → IsBaseClause kb mode c ↔ encoder.IsBaseClause p (AllFacts p) c
+    → IsBaseClause kb mode c ↔ over_priority.IsBaseClause p (AllFacts p) c
 
 -- each input has its priority in each mode
 abbrev pub InputHasPriority : Type 0

@@ -4,7 +4,7 @@ use Rattle.cq_terms.specs.Knowledge.{Knowledge}
 use Rattle.cq_meaning.specs.Rewriting.{IsClosure}
 use Rattle.clause_meaning.specs.Literals.{variable_of}
 use Rattle.priority_graph.specs.Split.{has}
-use Rattle.repair_encoder.specs.BaseClauses.{absent}
+use Rattle.repair_clauses.specs.BaseClauses.{absent}
 use Rattle.report_text.specs.declared.line.Line.{Line}
 use Rattle.report_text.specs.declared.line.Origin.TheVariants as origin
 use Rattle.report_rules.specs.Inputs.{Input, OneQuery, selector_of}

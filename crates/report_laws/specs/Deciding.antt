@@ -6,7 +6,7 @@ use Rattle.cq_terms.specs.Query.{Query}
 use Rattle.cq_meaning.specs.Candidates.{AreCauses}
 use Rattle.report_text.specs.declared.line.Line.{Line}
 use Rattle.report_text.specs.declared.line.Line.TheVariants as line
-use Rattle.repair_encoder.specs.BaseClauses.{absent}
+use Rattle.repair_clauses.specs.BaseClauses.{absent}
 use Rattle.report_text.specs.declared.line.Question.TheVariants as question
 use Rattle.report_rules.specs.ConflictLists.{IsInConflict, AreConflictFacts}
 use Rattle.report_rules.specs.Told.{budget_of}

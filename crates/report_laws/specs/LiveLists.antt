@@ -6,8 +6,8 @@ use Rattle.clause_meaning.specs.Literals.{opposite_of}
 use Rattle.clause_meaning.specs.Refutation.{Refutes, Follows, ContainsOneOf}
 use Rattle.priority_graph.specs.Priority.{Priority}
 use Rattle.priority_graph.specs.Inputs.{IsPriorityOf}
-use Rattle.repair_encoder.specs.BaseClauses.{IsFactClause, conflict_clause}
-use Rattle.repair_encoder.specs.CauseClauses.{cause_clause}
+use Rattle.repair_clauses.specs.BaseClauses.{IsFactClause, conflict_clause}
+use Rattle.repair_clauses.specs.CauseClauses.{cause_clause}
 use Rattle.report_text.specs.declared.line.Line.{Line}
 use Rattle.report_rules.specs.Inputs.{selector_of}
 use Rattle.report_rules.specs.Clauses.{IsBaseClause}

@@ -12,8 +12,8 @@ use Rattle.clause_meaning.specs.Refutation.{Refutes}
 use Rattle.priority_graph.specs.Priority.{Priority}
 use Rattle.priority_graph.specs.Inputs.{IsPriorityOf}
 use Rattle.priority_graph.specs.Split.{has}
-use Rattle.repair_encoder.specs.BaseClauses as encoder
-use Rattle.repair_encoder.specs.BaseClauses.{present, absent}
+use Rattle.repair_clauses.specs.BaseClauses as over_priority
+use Rattle.repair_clauses.specs.BaseClauses.{present, absent}
 use Rattle.report_text.specs.declared.line.Line.{Line}
 use Rattle.report_text.specs.declared.line.Line.TheVariants as line
 use Rattle.report_text.specs.declared.line.Question.{Question}
@@ -46,7 +46,7 @@ BaseClausesAreApart = (kb : Knowledge) (mode : Repairs) (clause : List ℕ) → 
 -- the base clauses of the facts of a scope are base clauses inside it
 abbrev pub ScopeHasBaseClauses : Type 0
 ScopeHasBaseClauses = (kb : Knowledge) (mode : Repairs) (p : Priority) → IsPriorityOf kb mode p → (a : Asked) (facts : List ℕ)
-    → IsScope kb a.causes facts → (clause : List ℕ) → encoder.IsBaseClause p (Contains facts) clause
+    → IsScope kb a.causes facts → (clause : List ℕ) → over_priority.IsBaseClause p (Contains facts) clause
     → IsBaseClause kb mode clause × IsInside (has (scope_of kb a facts)) clause
 
 -- the clauses of the causes are inside a scope, and so is all that may be assumed

@@ -10,7 +10,7 @@ use Rattle.clause_meaning.specs.Literals.{variable_of, HaveDistinctVariables}
 use Rattle.clause_meaning.specs.Assignments.{IsInside, IsOutside, Inside}
 use Rattle.clause_meaning.specs.Refutation.{Refutes, Follows, ContainsOneOf, IsWithin}
 use Rattle.priority_graph.specs.Split.{has}
-use Rattle.repair_encoder.specs.Components.{IsClosedUnder}
+use Rattle.repair_clauses.specs.Components.{IsClosedUnder}
 use Rattle.report_text.specs.declared.line.Line.{Line}
 use Rattle.report_rules.specs.Inputs.{Input, AreFacts, selector_of}
 use Rattle.report_rules.specs.Clauses.{IsBaseClause}

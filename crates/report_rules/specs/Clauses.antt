@@ -4,13 +4,13 @@ use Rattle.cq_terms.specs.declared.facts.Repairs.{Repairs}
 use Rattle.cq_terms.specs.Knowledge.{Knowledge}
 use Rattle.priority_graph.specs.Priority.{Priority}
 use Rattle.priority_graph.specs.Inputs.{IsPriorityOf}
-use Rattle.repair_encoder.specs.BaseClauses as encoder
-use Rattle.repair_encoder.specs.BaseClauses.{AllFacts}
-use Rattle.repair_encoder.specs.CauseClauses.{cause_clause}
+use Rattle.repair_clauses.specs.BaseClauses as over_priority
+use Rattle.repair_clauses.specs.BaseClauses.{AllFacts}
+use Rattle.repair_clauses.specs.CauseClauses.{cause_clause}
 
 -- a base clause over the conflicts of the knowledge base and its priority in the mode
 abbrev pub IsBaseClause : Knowledge → Repairs → List ℕ → Type 0
-IsBaseClause kb mode clause = (p : Priority) × IsPriorityOf kb mode p × encoder.IsBaseClause p (AllFacts p) clause
+IsBaseClause kb mode clause = (p : Priority) × IsPriorityOf kb mode p × over_priority.IsBaseClause p (AllFacts p) clause
 
 -- the clause of a cause: its selector is absent, or a fact of the cause is
 abbrev pub IsCauseClause : ℕ → List (List ℕ) → List ℕ → Type 0

@@ -2,7 +2,7 @@
 use Rattle.std.specs.Prelude.{ℕ, ◌⊎◌, List, [], ◌∷◌, map, Contains}
 use Rattle.cq_terms.specs.Knowledge.{Knowledge}
 use Rattle.clause_meaning.specs.Refutation.{IsWithin}
-use Rattle.repair_encoder.specs.BaseClauses.{present, absent}
+use Rattle.repair_clauses.specs.BaseClauses.{present, absent}
 use Rattle.report_text.specs.declared.line.Line.{Line}
 use Rattle.report_text.specs.declared.line.Line.TheVariants as line
 use Rattle.report_text.specs.declared.line.Question.{Question}

@@ -9,7 +9,7 @@ use Rattle.clause_meaning.specs.Literals.{HaveDistinctVariables}
 use Rattle.clause_meaning.specs.Refutation.{Refutes, Follows, ContainsOneOf, IsWithin}
 use Rattle.priority_graph.specs.Split.{has}
 use Rattle.priority_graph.specs.Inputs.{AreRivals}
-use Rattle.repair_encoder.specs.BaseClauses.{present, absent}
+use Rattle.repair_clauses.specs.BaseClauses.{present, absent}
 use Rattle.report_text.specs.declared.line.Line.{Line}
 use Rattle.report_text.specs.declared.line.Line.TheVariants as line
 use Rattle.report_text.specs.declared.line.Question.{Question}

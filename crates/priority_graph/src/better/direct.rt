@@ -6,14 +6,12 @@ ghost use Rattle.priority_graph.specs.Priority.{IsBetter, Conflict};
 ghost use Rattle.priority_graph.specs.Cores.{ConflictsWith, IsBlocked, IsCore, IsDirect, IsFree};
 
 use crate::Better;
-use crate::numbers::{ascending, has_sorted};
-use cq_terms::{Ids, NoMemory};
-use std::alloc::Global;
+use cq_terms::{Ids, NoMemory, has_sorted};
 
 impl Better {
     /// Answers the facts that conflict with a fact of `kept`, ascending, where these dropped and `kept` kept are a core,
     /// and `None` exactly where they aren't. The cost grows with the conflicts of the kept facts alone.
-    pub fn direct(&self, alloc: Global, kept: &[u32]) -> Result<Option<Ids>, NoMemory>
+    pub fn direct(&self, kept: &[u32]) -> Result<Option<Ids>, NoMemory>
         requires ascending { IsAscending kept.now }
         requires known { All (λ i. i < self.now.facts) kept.now }
         requires free { IsFree self.now (Contains kept.now) }
@@ -23,8 +21,7 @@ impl Better {
             (λ answer. answer ≡ None → ¬ IsCore self.now (Contains kept.now) (ConflictsWith self.now kept.now)) }
     {
         let _ = &self.facts;
-        let rivals = self.rivals(alloc, kept)?;
-        let dropped = ascending(alloc, rivals)?;
+        let dropped = self.ascending_rivals(kept)?;
         if self.are_blocked(dropped.as_slice(), kept) {
             Ok(Some(dropped))
         } else {
@@ -32,15 +29,27 @@ impl Better {
         }
     }
 
+    /// Answers the facts that conflict with a kept one, ascending.
+    fn ascending_rivals(&self, kept: &[u32]) -> Result<Ids, NoMemory>
+        requires known { All (λ i. i < self.now.facts) kept.now }
+
+        ensures ascending { IfOk result IsAscending }
+        ensures exact { IfOk result (λ rivals. (j : ℕ) → Contains rivals j ↔ ConflictsWith self.now kept.now j) }
+        ensures known { IfOk result (All (λ j. j < self.now.facts)) }
+    {
+        let rivals = self.rivals(kept)?;
+        Ids::sorted(*self.order.allocator(), rivals.as_slice())
+    }
+
     /// Answers the facts that conflict with a kept one, some more than once.
-    fn rivals(&self, alloc: Global, kept: &[u32]) -> Result<Vec<u32>, NoMemory>
+    fn rivals(&self, kept: &[u32]) -> Result<Vec<u32>, NoMemory>
         requires known { All (λ i. i < self.now.facts) kept.now }
 
         ensures exact { IfOk result
             (λ rivals. (j : ℕ) → Contains rivals.items j ↔ ConflictsWith self.now kept.now j) }
         ensures known { IfOk result (λ rivals. All (λ j. j < self.now.facts) rivals.items) }
     {
-        let mut rivals = Vec::new(alloc);
+        let mut rivals = Vec::new(*self.order.allocator());
         for fact in kept {
             rivals.extend_from_slice(self.worse(*fact))?;
             rivals.extend_from_slice(self.blockers(*fact))?;

@@ -1,4 +1,4 @@
-use Rattle.std.proofs.Common.{◌≡◌, ◌<◌, ◌≤◌, ℕ, length, get_or, subst, sym, arith, Contains}
+use Rattle.std.proofs.Common.{◌<◌, ◌≤◌, ℕ, length, subst, sym, arith, Contains}
 use Rattle.std.proofs.lemmas.List.Elements.{Contains-get_or}
 use Rattle.priority_graph.specs.Priority.{Conflict}
 use Rattle.explainer.specs.Growth.{Drops}

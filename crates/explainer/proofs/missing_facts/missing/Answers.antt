@@ -20,11 +20,11 @@ loop-cause-preserved c =
 
 pub returns-clause-found : goal.returns-clause-found
 returns-clause-found c = subst (λ (xs : List (List ℕ)). AreMissing xs c.args.present.now c.in_ok-facts.facts) c.as_slice-cause-items.ensures.lent
-    (least_of_all _ _ _ _ _ c.loop-cause-test.false c.loop-cause.invariant c.in_ok-facts.ensures.exact)
+    (least_of_all _ _ _ _ _ c.loop-cause-test.false c.loop-cause.invariant (rw c.as_slice-2.ensures.value at c.in_ok-facts.ensures.exact))
 
 pub returns-clause-none : goal.returns-clause-none
 returns-clause-none c =
     let found : AreMissing c.args.causes.now c.args.present.now c.in_ok-facts.facts =
     subst (λ (xs : List (List ℕ)). AreMissing xs c.args.present.now c.in_ok-facts.facts) c.as_slice-cause-items.ensures.lent
-    (least_of_all _ _ _ _ _ c.loop-cause-test.false c.loop-cause.invariant c.in_ok-facts.ensures.exact) in
+    (least_of_all _ _ _ _ _ c.loop-cause-test.false c.loop-cause.invariant (rw c.as_slice-2.ensures.value at c.in_ok-facts.ensures.exact)) in
     ((λ e. absurd (true≢false e)), (λ some. absurd (none_present c.args.causes.now c.args.present.now c.in_ok-facts.facts found some)))

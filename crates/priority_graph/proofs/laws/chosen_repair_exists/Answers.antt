@@ -2,4 +2,4 @@ use Rattle.priority_graph.proofs.ChosenLemmas.{chosen_exists}
 use Rattle.priority_graph.proofs.laws.chosen_repair_exists.Goals as goal
 
 pub returns : goal.returns
-returns c p h = chosen_exists p h
+returns c = record { exists = chosen_exists }

@@ -2,4 +2,4 @@ use Rattle.priority_graph.proofs.ChosenLemmas.{core_lies_in_chosen}
 use Rattle.priority_graph.proofs.laws.core_lies_in_chosen.Goals as goal
 
 pub returns : goal.returns
-returns c p h kept dropped core = core_lies_in_chosen p h kept dropped core
+returns c = record { inside = core_lies_in_chosen }

@@ -2,4 +2,4 @@ use Rattle.priority_graph.proofs.InputLemmas.{restricted_is_pareto}
 use Rattle.priority_graph.proofs.laws.restricted_is_pareto.Goals as goal
 
 pub returns : goal.returns
-returns c kb g p of over h = restricted_is_pareto kb g p of over h
+returns c = record { pareto = restricted_is_pareto }

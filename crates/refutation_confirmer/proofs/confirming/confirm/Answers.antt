@@ -2,7 +2,7 @@ use Rattle.std.proofs.Common.{◌≡◌, ◌<◌, length, arith, rules, Some}
 use Rattle.std.proofs.lemmas.Bool.Decides.{nat_tests}
 use Rattle.cq_meaning.specs.Candidates.{concept_query}
 use Rattle.refutation_confirmer.specs.declared.progress.Kind.TheVariants as kind
-use Rattle.refutation_confirmer.specs.declared.rule.Rule.TheVariants as rule
+use Rattle.report_rules.specs.declared.rule.Rule.TheVariants as rule
 use Rattle.refutation_confirmer.specs.Candidates.{tuples_of}
 use Rattle.refutation_confirmer.proofs.AcceptanceLemmas.{ConfirmsSo-more, ConfirmsSo-few}
 use Rattle.refutation_confirmer.proofs.ConfirmLemmas.{yes_yes, yes_no, no_yes, no_no, yes_true, stops_at_text, stops_at_line, stops_at_end, ends}

@@ -1,26 +1,24 @@
-use Rattle.std.proofs.Common.{◌↔◌, ℕ, List, Contains}
-use Rattle.repair_encoder.specs.BaseClauses.{IsBaseClause}
-use Rattle.repair_encoder.proofs.BaseLemmas.{built_all}
-use Rattle.repair_encoder.proofs.FormLemmas.{all_have_form}
-use Rattle.repair_encoder.proofs.TwinLemmas.{pushed_more, pushed_once}
+use Rattle.std.proofs.lemmas.Result.{IfOk-weaker}
+use Rattle.cq_terms.specs.Conflicts.{AreInConflict}
+use Rattle.cq_terms.specs.Lists.{IsSorted}
+use Rattle.repair_encoder.proofs.SortedLemmas.{sorted_known, sorted_closed, sorted_form, sorted_exact}
 use Rattle.repair_encoder.proofs.base.base_clauses.Goals as goal
 
-pub loop-fact-preserved : goal.loop-fact-preserved
-loop-fact-preserved c = record {
-  exact = rw c.in_ok-push_conflicts.ensures.exact
-      (pushed_more c.args.better.now c.args.conflicts.now c.requires.over c.facts.ensures.kept c.args.facts.now c.requires.ascending c.requires.closed c.loop-fact.fact-index c.loop-fact-test.true
-      c.loop-fact.clauses c.push_fact.new.clauses c.of.result.now c.loop-fact.invariant.exact c.of.ensures.exact c.in_ok-push_fact.ensures.exact);
-  once = rw c.in_ok-push_conflicts.ensures.exact
-      (pushed_once c.args.better.now c.args.conflicts.now c.requires.over c.facts.ensures.kept c.args.facts.now c.requires.ascending c.requires.closed c.loop-fact.fact-index c.loop-fact-test.true
-      c.loop-fact.clauses c.push_fact.new.clauses c.of.result.now c.loop-fact.invariant.exact c.of.ensures.exact c.of.ensures.ascending c.loop-fact.invariant.once c.in_ok-push_fact.ensures.exact);
-}
+pub clauses_of_ascending-requires : goal.clauses_of_ascending-requires
+clauses_of_ascending-requires c =
+    let sorted : IsSorted c.args.facts.now c.as_slice.result.now = rw c.as_slice.ensures.lent c.in_ok-ascending.ensures.exact in
+    record {
+      over = c.requires.over;
+      known = sorted_known _ _ sorted c.args.conflicts.now.facts c.requires.known;
+      ascending = sorted.ascending;
+      closed = sorted_closed _ _ sorted (AreInConflict c.args.conflicts.now.clashes) c.requires.closed;
+    }
 
 pub returns : goal.returns
 returns c =
-    let exact : (d : List ℕ) → Contains c.loop-fact.clauses d ↔ IsBaseClause c.args.better.now (Contains c.args.facts.now) d =
-    built_all c.args.better.now c.args.conflicts.now c.args.facts.now c.loop-fact.fact-index c.loop-fact.clauses c.loop-fact-test.false c.requires.over c.facts.ensures.kept c.requires.closed c.loop-fact.invariant.exact in
+    let sorted : IsSorted c.args.facts.now c.as_slice.result.now = rw c.as_slice.ensures.lent c.in_ok-ascending.ensures.exact in
     record {
-      once = c.loop-fact.invariant.once;
-      form = all_have_form c.args.better.now c.args.conflicts.now c.args.facts.now c.loop-fact.clauses c.requires.over c.facts.ensures.kept c.requires.closed exact;
-      exact = exact;
+      once = c.clauses_of_ascending.ensures.once;
+      form = IfOk-weaker _ _ _ (λ clauses h. sorted_form _ _ sorted clauses h) c.clauses_of_ascending.ensures.form;
+      exact = IfOk-weaker _ _ _ (λ clauses h. sorted_exact _ _ sorted c.args.better.now clauses h) c.clauses_of_ascending.ensures.exact;
     }

@@ -1,7 +1,8 @@
 use Rattle.std.proofs.Common.{ℕ, List, Contains, subst}
 use Rattle.std.proofs.lemmas.Bool.{false≢true}
 use Rattle.std.proofs.lemmas.Result.{IfOk-weaker}
-use Rattle.repair_encoder.proofs.BaseLemmas.{no_self_conflict, conflict_over, blocking_clause}
+use Rattle.priority_graph.proofs.DirectLemmas.{conflict_over}
+use Rattle.repair_encoder.proofs.BaseLemmas.{no_self_conflict, blocking_clause}
 use Rattle.repair_encoder.proofs.base.fact_clause.Goals as goal
 
 pub present_or-requires-clause-apart : goal.present_or-requires-clause-apart

@@ -1,5 +1,5 @@
 use Rattle.std.proofs.Common.{◌≡◌, ◌++◌, take}
-use Rattle.repair_encoder.specs.BaseClauses.{conflict_clauses}
+use Rattle.repair_encoder.specs.Forms.{conflict_clauses}
 use Rattle.repair_encoder.proofs.base.push_conflicts.Given as goal
 
 abbrev pub invariant-loop-rival : goal.invariant-loop-rival

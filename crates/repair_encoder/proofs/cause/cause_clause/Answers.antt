@@ -1,7 +1,8 @@
 use Rattle.std.proofs.Common.{◌≡◌, arith}
-use Rattle.repair_encoder.specs.BaseClauses.{absent}
-use Rattle.repair_encoder.specs.CauseClauses as clauses
-use Rattle.repair_encoder.proofs.ListLemmas.{ascending_push, ascending_map, distinct_absent, cause_clause_is}
+use Rattle.repair_clauses.specs.BaseClauses.{absent}
+use Rattle.repair_clauses.specs.CauseClauses as clauses
+use Rattle.repair_clauses.proofs.ListLemmas.{ascending_push, ascending_map}
+use Rattle.repair_encoder.proofs.ListLemmas.{distinct_absent, cause_clause_is}
 use Rattle.repair_encoder.proofs.cause.cause_clause.Goals as goal
 
 pub returns-clause-ascending : goal.returns-clause-ascending

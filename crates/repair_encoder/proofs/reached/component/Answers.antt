@@ -24,7 +24,7 @@ pub returns : goal.returns
 returns c =
     let ended : length c.loop-next.walk.reached.items ≤ c.loop-next.next = omega (arith, c.loop-next-test.false, c.len.ensures) in
     record {
-      exact = IfOk-weaker _ _ _ (λ facts h. walked_component _ _ _ _ _ c.loop-next.invariant ended facts h) c.sorted.ensures.exact;
-      closed = IfOk-weaker _ _ _ (λ facts h. component_closed _ _ _ _ _ c.loop-next.invariant ended facts h) c.sorted.ensures.exact;
-      known = IfOk-weaker _ _ _ (λ facts h. component_known _ _ _ _ _ c.loop-next.invariant ended facts h) c.sorted.ensures.exact;
+      exact = IfOk-weaker _ _ _ (λ facts h. walked_component _ _ _ _ _ c.loop-next.invariant ended facts (rw c.as_slice.ensures.value at h)) c.sorted.ensures.exact;
+      closed = IfOk-weaker _ _ _ (λ facts h. component_closed _ _ _ _ _ c.loop-next.invariant ended facts (rw c.as_slice.ensures.value at h)) c.sorted.ensures.exact;
+      known = IfOk-weaker _ _ _ (λ facts h. component_known _ _ _ _ _ c.loop-next.invariant ended facts (rw c.as_slice.ensures.value at h)) c.sorted.ensures.exact;
     }

@@ -1,8 +1,8 @@
-use Rattle.std.proofs.Common.{◌≡◌, ◌<◌, ℕ, List, get_or, subst, sym}
+use Rattle.std.proofs.Common.{◌<◌, ℕ, get_or, subst, sym}
 use Rattle.std.proofs.lemmas.List.Elements.{Contains-get_or}
-use Rattle.cq_terms.specs.Conflicts.{AreInConflict}
 use Rattle.priority_graph.specs.Priority.{Conflict}
-use Rattle.explainer.proofs.GrowthLemmas.{drops_none, drops_more, drops_rivals, conflict_of, wider}
+use Rattle.priority_graph.proofs.DirectLemmas.{conflict_of}
+use Rattle.explainer.proofs.GrowthLemmas.{drops_none, drops_more, drops_rivals, wider}
 use Rattle.explainer.proofs.growth.Growing.drop_rivals.Goals as goal
 
 pub loop-rival-init : goal.loop-rival-init

@@ -1,4 +1,3 @@
-use Rattle.std.proofs.Common.{refl}
 use Rattle.std.proofs.lemmas.List.{take_all}
 use Rattle.explainer.proofs.GrowthLemmas.{start_more}
 use Rattle.explainer.proofs.growth.Growing.from_start.Goals as goal

@@ -1,0 +1,4 @@
+pub mod BaseClauses
+pub mod CauseClauses
+pub mod Components
+pub mod Laws

@@ -1,5 +1,0 @@
-use Rattle.repair_encoder.proofs.LawLemmas.{cause_is_excluded}
-use Rattle.repair_encoder.proofs.laws.cause_clause_excludes_the_cause.Goals as goal
-
-pub returns : goal.returns
-returns c = cause_is_excluded

@@ -1,5 +1,0 @@
-use Rattle.repair_encoder.proofs.LawLemmas.{closed_sets_separate}
-use Rattle.repair_encoder.proofs.laws.closed_sets_separate_clauses.Goals as goal
-
-pub returns : goal.returns
-returns c = closed_sets_separate
