@@ -70,15 +70,15 @@ module _ (facts : List Fact) (members : List Member) where
 
     pub too_many_gathered : (limit : ℕ) → HasMoreHits facts m.query limit ⊎ AreTooMany limit new → HasMorePairs facts members limit
     too_many_gathered limit (inl more) = record {
-      pairs = more.items;
+      items = more.items;
       each = λ k d l. (place, (m, at, more.each k d l));
-      ascending = more.apart;
+      apart = more.apart;
       longer = more.longer;
     }
     too_many_gathered limit (inr more) = record {
-      pairs = map pair_of new;
+      items = map pair_of new;
       each = All-map (λ (h : Hit). (i : ℕ) × MatchesAt facts members h.tuple h.image i) pair_of new (λ k d l. by (get_or new k d) (only.right (get_or new k d) (Contains-get_or new k d l)));
-      ascending = pairs_ascend new more.ordered;
+      apart = pairs_ascend new more.ordered;
       longer = omega (arith, more.longer, length-map new pair_of);
     }
       where

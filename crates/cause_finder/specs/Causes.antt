@@ -1,27 +1,17 @@
 -- What the answer on a query promises: exactly its candidates, each with exactly its causes and a member for each of them.
-use Rattle.std.specs.Prelude.{◌≡◌, ℕ, ◌<◌, List, [], length, map, slice_get, Some, All, AllPairs}
+use Rattle.std.specs.Prelude.{◌≡◌, ℕ, ◌<◌, List, map, slice_get, Some, All}
 use Rattle.std.specs.List.{AllZip}
 use Rattle.cq_terms.specs.declared.axioms.Axiom.{Axiom}
 use Rattle.cq_terms.specs.declared.facts.Fact.{Fact}
-use Rattle.cq_terms.specs.declared.hits.Hit.{Hit}
-use Rattle.cq_terms.specs.Conflicts.{ConflictGraph, own_facts, couples}
-use Rattle.cq_terms.specs.Knowledge.{Knowledge}
+use Rattle.cq_terms.specs.Knowledge.{Knowledge, kb_of}
+use Rattle.cq_terms.specs.Lists.{HasMore}
 use Rattle.cq_terms.specs.Query.{Query}
-use Rattle.cq_meaning.specs.Conflicts.{AreConflicts}
 use Rattle.cq_meaning.specs.Candidates.{AreCandidates, AreCauses}
 use Rattle.cq_meaning.specs.Entailment.{HasImage}
 use Rattle.cq_meaning.specs.Rewriting.{IsSupport}
 use Rattle.cq_steps.specs.declared.closure.Member.{Member}
 use Rattle.query_matching.specs.Hits.{IsBefore}
 use Rattle.cause_finder.specs.declared.candidate.Candidate.{Candidate}
-
--- the knowledge base of these axioms and facts, without a priority
-abbrev pub knowledge : List Axiom → List Fact → Knowledge
-knowledge axioms facts = record { axioms = axioms; facts = facts; pairs = [] }
-
--- the conflicts are exactly those of the facts under the axioms
-abbrev pub AreConflictsOf : List Axiom → List Fact → ConflictGraph → Type 0
-AreConflictsOf axioms facts graph = AreConflicts (knowledge axioms facts) (own_facts graph.clashes) (couples graph.clashes)
 
 -- the member at the place has a match with the tuple and exactly that image
 abbrev pub MatchesAt : List Fact → List Member → List ℕ → List ℕ → ℕ → Type 0
@@ -38,13 +28,10 @@ HasLeastMembers facts members c = AllZip (IsLeastMember facts members c.tuple) c
 
 -- exactly the candidates of the query in order, each with exactly its causes, and the least member for each cause
 pub record AreAnswers (axioms : List Axiom) (facts : List Fact) (q : Query) (members : List Member) (answers : List Candidate) : Type 0 where
-  pub candidates : AreCandidates (knowledge axioms facts) q (map (λ c. c.tuple) answers)
-  pub causes : All (λ c. AreCauses (knowledge axioms facts) q c.tuple c.causes) answers
+  pub candidates : AreCandidates (kb_of axioms facts) q (map (λ c. c.tuple) answers)
+  pub causes : All (λ c. AreCauses (kb_of axioms facts) q c.tuple c.causes) answers
   pub least : All (HasLeastMembers facts members) answers
 
--- there are more supports than so many: some list of pairs of a tuple and a support, in order and each once, is longer
-pub record HasMoreSupports (kb : Knowledge) (q : Query) (limit : ℕ) : Type 0 where
-  pub supports : List Hit
-  pub each : All (λ s. IsSupport kb q s.tuple s.image) supports
-  pub ascending : AllPairs IsBefore supports
-  pub longer : limit < length supports
+-- there are more pairs of a tuple and a support of it than the limit, in order and each once
+abbrev pub HasMoreSupports : Knowledge → Query → ℕ → Type 0
+HasMoreSupports kb q limit = HasMore IsBefore (λ s. IsSupport kb q s.tuple s.image) limit

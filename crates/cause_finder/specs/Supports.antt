@@ -1,11 +1,12 @@
 -- Supports as the search keeps them: which a list of supports has, and what one more hit adds.
-use Rattle.std.specs.Prelude.{◌≡◌, ℕ, ◌<◌, ◌⊎◌, List, length, All, AllPairs, Contains}
+use Rattle.std.specs.Prelude.{◌≡◌, ℕ, ◌<◌, ◌⊎◌, List, length, Contains}
 use Rattle.std.specs.Ordering.{nat_cmp, then_cmp, on}
 use Rattle.std.specs.declared.cmp.Ordering.{Ordering}
 use Rattle.std.specs.Cmp.Lexicographic.{slice_cmp}
 use Rattle.std.specs.List.Sorted.{IsStrictlySortedBy}
 use Rattle.cq_terms.specs.declared.facts.Fact.{Fact}
 use Rattle.cq_terms.specs.declared.hits.Hit.{Hit}
+use Rattle.cq_terms.specs.Lists.{HasMore}
 use Rattle.cq_steps.specs.declared.closure.Member.{Member}
 use Rattle.query_matching.specs.Hits.{IsBefore}
 use Rattle.cause_finder.specs.declared.support.Support.{Support}
@@ -47,9 +48,6 @@ pub record AreSupports (facts : List Fact) (members : List Member) (supports : L
   pub gathered : AreGathered facts members (length members) supports
   pub ascending : IsStrictlySortedBy support_cmp supports
 
--- more pairs of a tuple and an image of some member than the limit
-pub record HasMorePairs (facts : List Fact) (members : List Member) (limit : ℕ) : Type 0 where
-  pub pairs : List Hit
-  pub each : All (λ h. (i : ℕ) × MatchesAt facts members h.tuple h.image i) pairs
-  pub ascending : AllPairs IsBefore pairs
-  pub longer : limit < length pairs
+-- there are more pairs of a tuple and an image of some member than the limit, in order and each once
+abbrev pub HasMorePairs : List Fact → List Member → ℕ → Type 0
+HasMorePairs facts members limit = HasMore IsBefore (λ h. (i : ℕ) × MatchesAt facts members h.tuple h.image i) limit

@@ -1,11 +1,12 @@
 //! The candidates of a query with their causes.
 
 ghost use Rattle.std.specs.Prelude.{◌≡◌, IfOk, OnOk, length};
-ghost use Rattle.cq_terms.specs.Knowledge.{AreDistinct};
+ghost use Rattle.cq_terms.specs.Knowledge.{AreDistinct, kb_of};
 ghost use Rattle.cq_terms.specs.Query.{Query};
+ghost use Rattle.cq_meaning.specs.ConflictGraphs.{AreConflictsOf};
 ghost use Rattle.cq_steps.specs.Closing.{Closes};
 ghost use Rattle.cq_steps.specs.Derivation.{IsDerivation};
-ghost use Rattle.cause_finder.specs.Causes.{AreAnswers, AreConflictsOf, HasMoreSupports, knowledge};
+ghost use Rattle.cause_finder.specs.Causes.{AreAnswers, HasMoreSupports};
 
 use crate::gathered::supports_of;
 use crate::groups::candidates_of;
@@ -30,14 +31,14 @@ pub fn causes(
 ) -> Result<Vec<Candidate>, CauseRefusal>
     requires facts { conflicts.now.facts ≡ length index.now }
 
-    ensures exact { (q : Query) → Closes axioms.now q closure.now → AreConflictsOf axioms.now index.now conflicts.now
+    ensures exact { (q : Query) → Closes axioms.now q closure.now → AreConflictsOf (kb_of axioms.now index.now) conflicts.now
         → IfOk result (λ candidates. AreAnswers axioms.now index.now q closure.now candidates.items) }
 
     // Too many comes where there are more than the limit, and then nothing else but want of memory.
     ensures too_many { (q : Query) → Closes axioms.now q closure.now
-        → result ≡ Err CauseRefusal.TooManySupports → HasMoreSupports (knowledge axioms.now index.now) q limit }
+        → result ≡ Err CauseRefusal.TooManySupports → HasMoreSupports (kb_of axioms.now index.now) q limit }
     ensures within { (q : Query) → Closes axioms.now q closure.now
-        → OnOk result (¬ HasMoreSupports (knowledge axioms.now index.now) q limit) }
+        → OnOk result (¬ HasMoreSupports (kb_of axioms.now index.now) q limit) }
 {
     closing_list_is_closure();
     derived(closure);

@@ -90,10 +90,10 @@ fn candidate_of(
         if !is_cause(group, conflicts, image) {
             continue;
         }
-        causes.push(copy_of(alloc, image)?)?;
+        causes.push(Ids::from_slice(alloc, image)?)?;
         members.push(support.member)?;
     }
-    let tuple = copy_of(alloc, tuple)?;
+    let tuple = Ids::from_slice(alloc, tuple)?;
     Ok(Candidate {
         tuple,
         causes,
@@ -113,15 +113,4 @@ fn is_cause(group: &[Support], conflicts: &Conflicts, image: &[u32]) -> bool
         return false;
     }
     has_no_part(group, image)
-}
-
-/// A copy of the numbers.
-fn copy_of(alloc: Global, numbers: &[u32]) -> Result<Ids, NoMemory>
-    ensures exact { IfOk result (λ ids. ids ≡ numbers.now) }
-{
-    let mut ids = Ids::new(alloc);
-    for number in numbers {
-        ids.push(*number)?;
-    }
-    Ok(ids)
 }

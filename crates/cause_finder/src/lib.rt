@@ -7,7 +7,6 @@ mod gathered;
 mod groups;
 mod parts;
 mod refusal;
-mod short_list;
 mod smaller;
 mod support;
 #[cfg(test)]

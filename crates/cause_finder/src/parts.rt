@@ -1,20 +1,10 @@
 //! Facts that clash, and lists of facts that don't.
 
-ghost use Rattle.std.specs.Prelude.{◌≡◌, ◌<◌, ◌↔◌, IsTrue, All, Contains, length};
+ghost use Rattle.std.specs.Prelude.{◌≡◌, ◌<◌, ◌↔◌, IsTrue, All};
 ghost use Rattle.cq_terms.specs.Conflicts.{AreInConflict};
-ghost use Rattle.cq_terms.specs.Lists.{IsAscending};
 ghost use Rattle.cause_finder.specs.Groups.{IsFree, IsFreeAmong};
 
-use cq_terms::Conflicts;
-
-/// Whether the ascending list has the number.
-fn has(numbers: &[u32], number: u32) -> bool
-    requires ascending { IsAscending numbers.now }
-
-    ensures exact { IsTrue result ↔ Contains numbers.now number }
-{
-    numbers.binary_search(&number).is_ok()
-}
+use cq_terms::{Conflicts, has_sorted};
 
 /// Whether a fact conflicts with none of these.
 fn conflicts_with_none(conflicts: &Conflicts, fact: u32, facts: &[u32]) -> bool
@@ -24,7 +14,7 @@ fn conflicts_with_none(conflicts: &Conflicts, fact: u32, facts: &[u32]) -> bool
 {
     let rivals = conflicts.of(fact);
     for other in facts {
-        if has(rivals, *other) {
+        if has_sorted(rivals, *other) {
             return false;
         }
     }

@@ -8,8 +8,7 @@ ghost use Rattle.std.specs.Cmp.Lexicographic.{slice_cmp, pointwise};
 ghost use Rattle.std.specs.Ordering.{nat_cmp, on, then_cmp, as_partial_cmp, eq_of_both};
 ghost use Rattle.cause_finder.specs.Supports.{support_by};
 
-use crate::short_list::ShortList;
-use cq_terms::{Hit, NoMemory};
+use cq_terms::{Hit, Ids, NoMemory};
 use std::alloc::Global;
 use std::cmp::Ordering;
 
@@ -17,8 +16,8 @@ use std::cmp::Ordering;
 /// then by image; two that differ in the member alone are the same support.
 #[derive(Debug, Drop)]
 pub(crate) struct Support {
-    pub tuple: ShortList,
-    pub image: ShortList,
+    pub tuple: Ids,
+    pub image: Ids,
     pub member: u32,
 }
 
@@ -69,8 +68,8 @@ pub(crate) fn support_of(alloc: Global, hit: &Hit, member: u32) -> Result<Suppor
     ensures exact { IfOk result (λ s. s ≡ support_by member hit.now) }
 {
     Ok(Support {
-        tuple: ShortList::of(alloc, hit.tuple.as_slice())?,
-        image: ShortList::of(alloc, hit.image.as_slice())?,
+        tuple: Ids::from_slice(alloc, hit.tuple.as_slice())?,
+        image: Ids::from_slice(alloc, hit.image.as_slice())?,
         member,
     })
 }

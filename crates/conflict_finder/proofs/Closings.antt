@@ -22,9 +22,9 @@ use Rattle.conflict_finder.proofs.Pigeons.{not_longer}
 
 -- a closure within the limit isn't too large
 pub closure_fits : (axioms : List Axiom) (q : Query) (members : List Member) (limit : ℕ) → IsClosure axioms q (queries_of members) → length members ≤ limit → HasMoreThan axioms q limit → ⊥
-closure_fits axioms q members limit is few (queries, l, apart, all) =
-    let within = not_longer queries (queries_of members) apart (λ r c. (is r).1 (All-contains (IsInClosure axioms q) queries r all c)) in
-    omega (arith, within, few, l, length-map members (λ (m : Member). m.query))
+closure_fits axioms q members limit is few more =
+    let within = not_longer more.items (queries_of members) more.apart (λ r c. (is r).1 (All-contains (IsInClosure axioms q) more.items r more.each c)) in
+    omega (arith, within, few, more.longer, length-map members (λ (m : Member). m.query))
 
 -- the closures of the first axioms, none too large
 pub record AreFirstClosures (axioms : List Axiom) (limit i : ℕ) (closures : List (ℕ × List Member)) : Type 0 where

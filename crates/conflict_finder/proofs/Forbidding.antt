@@ -5,7 +5,7 @@ use Rattle.std.proofs.lemmas.Option.{slice_get_within}
 use Rattle.std.proofs.lemmas.List.Elements.{All-contains}
 use Rattle.cq_terms.specs.declared.axioms.Axiom.{Axiom}
 use Rattle.cq_terms.specs.declared.facts.Fact.{Fact}
-use Rattle.cq_terms.specs.Knowledge.{AreDistinct}
+use Rattle.cq_terms.specs.Knowledge.{AreDistinct, kb_of}
 use Rattle.cq_terms.specs.Query.{Query}
 use Rattle.cq_meaning.specs.Entailment.{HasImage}
 use Rattle.cq_meaning.specs.Conflicts.{IsSelfInconsistent, Conflict}
@@ -19,7 +19,7 @@ use Rattle.cq_steps.specs.declared.closure.Member.{Member}
 use Rattle.cq_steps.specs.Derivation.{IsDerivation}
 use Rattle.cq_steps.specs.Closing.{Closes, queries_of}
 use Rattle.cq_steps.specs.Closing.{ClosingListIsClosure}
-use Rattle.conflict_finder.specs.Finding.{kb_of, Forbids, AreClosures, Shows}
+use Rattle.conflict_finder.specs.Finding.{Forbids, AreClosures, Shows}
 use Rattle.conflict_finder.specs.Images.{IsShort, AreShort}
 use Rattle.conflict_finder.proofs.Shapes.{short_in_closure, short_forbidden}
 

@@ -1,5 +1,5 @@
 -- What the matches in a part of a table say of the whole.
-use Rattle.std.proofs.Common.{◌≡◌, ◌≢◌, ℕ, suc, ◌<◌, ◌≤◌, List, [], ◌∷◌, length, map, Contains, ◌⊎◌, inl, inr, ◌↔◌, Bool, true, false, slice_get, Some, refl, sym, ap, ◌∙◌, subst, arith, AllPairs, cond, not, ◌==◌}
+use Rattle.std.proofs.Common.{◌≡◌, ◌≢◌, ℕ, suc, ◌<◌, ◌≤◌, List, [], ◌∷◌, length, map, Contains, ◌⊎◌, inl, inr, ◌↔◌, Bool, true, false, slice_get, Some, refl, sym, ap, ◌∙◌, subst, arith, AllPairs, not, ◌==◌}
 use Rattle.std.specs.Bool.{IsTrue}
 use Rattle.std.specs.List.{All, AllZip}
 use Rattle.std.specs.Ordering.{ordering_reverse, ordering_then, nat_cmp}
@@ -25,9 +25,12 @@ use Rattle.cq_meaning.proofs.Supports.{image_has}
 use Rattle.cq_meaning.proofs.Ascending.{All-of, ascending_same}
 use Rattle.query_matching.specs.Hits.{IsHit, IsBefore, AreHits, HasMoreHits}
 use Rattle.query_matching.proofs.Ascending.{AllPairs-head, AllPairs-tail}
-use Rattle.conflict_finder.specs.Finding.{HasMore}
-use Rattle.conflict_finder.specs.Images.{ArePart, AreKeys, IsShort}
-use Rattle.conflict_finder.specs.Seen.{numbers_of, IsWanted}
+use Rattle.conflict_finder.specs.Finding.{HasMoreSets}
+use Rattle.conflict_finder.specs.declared.clash_facts.ClashFacts.{ClashFacts}
+use Rattle.conflict_finder.specs.declared.clash_facts.ClashFacts.TheVariants.{One, Two}
+use Rattle.conflict_finder.specs.declared.sought.Sought.TheVariants.{Pairs}
+use Rattle.conflict_finder.specs.Images.{ArePart, AreKeys, IsShort, IsTwoAt}
+use Rattle.conflict_finder.specs.FirstShown.{numbers_of, IsWanted}
 use Rattle.conflict_finder.proofs.Parts.{zip_there, zip_back, lesser, in_whole, in_part, numbers_at, zip_at, ascends_at, one_place}
 
 -- ---- queries with no head
@@ -139,27 +142,7 @@ not_three facts distinct q numbers l h a b c ca cb cd ab bc =
         go (inr _) (inr _) (inl e) = ik e
         go (inr a') (inr b') (inr c') = omega arith
 
--- ---- keys
-
-pub numbers_same : (k : ℕ × ℕ) → k.0 ≡ k.1 → numbers_of k ≡ k.0 ∷ []
-numbers_same k e = by (k.0 == k.1) (grind (arith, nat_tests, e))
-  where
-    by : (b : Bool) → b ≡ true → cond b (k.0 ∷ []) (k.0 ∷ k.1 ∷ []) ≡ k.0 ∷ []
-    by true e = refl
-    by false e = cc
-
-pub numbers_apart : (k : ℕ × ℕ) → (k.0 ≡ k.1 → ⊥) → numbers_of k ≡ k.0 ∷ k.1 ∷ []
-numbers_apart k n = by (k.0 == k.1) (grind (arith, nat_tests, n))
-  where
-    by : (b : Bool) → b ≡ false → cond b (k.0 ∷ []) (k.0 ∷ k.1 ∷ []) ≡ k.0 ∷ k.1 ∷ []
-    by false e = refl
-    by true e = cc
-
-pub two_apart : (k : ℕ × ℕ) → length (numbers_of k) ≡ 2 → k.0 ≡ k.1 → ⊥
-two_apart k l e = let one = ap length (numbers_same k e) in omega (arith, one, l)
-
-pub one_same : (k : ℕ × ℕ) → length (numbers_of k) ≡ 1 → k.0 ≡ k.1
-one_same k l = elim (cases_eq k.0 k.1) [ inl e ↦ e | inr n ↦ absurd (let two = ap length (numbers_apart k n) in omega (arith, two, l)) ]
+-- ---- two numbers
 
 pub two_ascend : (i j : ℕ) → i < j → IsAscending (i ∷ j ∷ [])
 two_ascend i j ij = AllPairs-cons (λ a b. a < b) i (j ∷ []) (All-of (λ l. i < l) (j ∷ []) (λ l c. elim (Contains-cases j [] l c) [ inl e ↦ omega arith | inr n ↦ absurd (Contains-nil l n) ])) (one_ascends j)
@@ -170,43 +153,39 @@ ascend_two i j a = All-contains (λ l. i < l) (j ∷ []) j (AllPairs-head (λ x 
 -- ---- pairs
 
 module _ (facts : List Fact) (distinct : AreDistinct facts) (numbers : List ℕ) (part : List Fact) (are : ArePart facts numbers part) (q : Query) (short : IsShort q) where
-  pub pair_keys : (hits : List Hit) → AreHits part q hits → (keys : List (ℕ × ℕ))
-      → AreKeys (λ k. (h : Hit) × (i : ℕ) × (j : ℕ) × Contains hits h × (h.image ≡ i ∷ j ∷ []) × (slice_get numbers i ≡ Some k.0) × (slice_get numbers j ≡ Some k.1)) keys
-      → AreKeys (λ k. IsWanted false numbers (numbers_of k) × HasImage facts q [] (numbers_of k)) keys
+  pub pair_keys : (hits : List Hit) → AreHits part q hits → (keys : List ClashFacts) → AreKeys (λ k. (h : Hit) × Contains hits h × IsTwoAt numbers h.image k) keys
+      → AreKeys (λ k. IsWanted Pairs numbers (numbers_of k) × HasImage facts q [] (numbers_of k)) keys
   pair_keys hits all keys told k = ((λ c. there k ((told k).0 c)), (λ w. (told k).1 (back k w.0.0 w.0.1 w.1)))
     where
-      image_there : (k : ℕ × ℕ) (i j : ℕ) → HasImage part q [] (i ∷ j ∷ []) → slice_get numbers i ≡ Some k.0 → slice_get numbers j ≡ Some k.1 → IsWanted false numbers (numbers_of k) × HasImage facts q [] (numbers_of k)
-      image_there k i j h e f =
-          let l = lesser numbers are.ascending i j k.0 k.1 (ascend_two i j h.ascending) e f in
-          let is : numbers_of k ≡ k.0 ∷ k.1 ∷ [] = numbers_apart k (λ d. omega (arith, l, d)) in
-          let both : All (Contains numbers) (k.0 ∷ k.1 ∷ []) = All-of (Contains numbers) (k.0 ∷ k.1 ∷ []) (λ n c. elim (Contains-cases k.0 (k.1 ∷ []) n c) [
-            | inl d ↦ subst (Contains numbers) d (Contains-slice_get numbers i k.0 e)
-            | inr c' ↦ elim (Contains-cases k.1 [] n c') [ inl d ↦ subst (Contains numbers) d (Contains-slice_get numbers j k.1 f) | inr z ↦ absurd (Contains-nil n z) ]
+      image_there : (a b i j : ℕ) → HasImage part q [] (i ∷ j ∷ []) → slice_get numbers i ≡ Some a → slice_get numbers j ≡ Some b → IsWanted Pairs numbers (a ∷ b ∷ []) × HasImage facts q [] (a ∷ b ∷ [])
+      image_there a b i j h e f =
+          let l = lesser numbers are.ascending i j a b (ascend_two i j h.ascending) e f in
+          let both : All (Contains numbers) (a ∷ b ∷ []) = All-of (Contains numbers) (a ∷ b ∷ []) (λ n c. elim (Contains-cases a (b ∷ []) n c) [
+            | inl d ↦ subst (Contains numbers) d (Contains-slice_get numbers i a e)
+            | inr c' ↦ elim (Contains-cases b [] n c') [ inl d ↦ subst (Contains numbers) d (Contains-slice_get numbers j b f) | inr z ↦ absurd (Contains-nil n z) ]
           ]) in
-          ((ap length is, subst (All (Contains numbers)) (sym is) both), subst (HasImage facts q []) (sym is) (in_whole facts distinct numbers part are q (k.0 ∷ k.1 ∷ []) (i ∷ j ∷ []) (e, (f, tt)) (two_ascend k.0 k.1 l) h))
+          ((refl, both), in_whole facts distinct numbers part are q (a ∷ b ∷ []) (i ∷ j ∷ []) (e, (f, tt)) (two_ascend a b l) h)
 
-      there : (k : ℕ × ℕ) → (h : Hit) × (i : ℕ) × (j : ℕ) × Contains hits h × (h.image ≡ i ∷ j ∷ []) × (slice_get numbers i ≡ Some k.0) × (slice_get numbers j ≡ Some k.1) → IsWanted false numbers (numbers_of k) × HasImage facts q [] (numbers_of k)
-      there k (h, i, j, c, im, e, f) = image_there k i j (subst (HasImage part q []) im (boolean part q h.tuple h.image short.0 (All-contains (IsHit part q) hits h all.each c)).1) e f
+      there : (k : ClashFacts) → (h : Hit) × Contains hits h × IsTwoAt numbers h.image k → IsWanted Pairs numbers (numbers_of k) × HasImage facts q [] (numbers_of k)
+      there (One a) w = absurd w.2
+      there (Two a b) w = image_there a b w.2.0 w.2.1 (subst (HasImage part q []) w.2.2 (boolean part q w.0.tuple w.0.image short.0 (All-contains (IsHit part q) hits w.0 all.each w.1)).1) w.2.3 w.2.4
 
-      in_order : (k : ℕ × ℕ) (i j : ℕ) → k.0 < k.1 → slice_get numbers i ≡ Some k.0 → slice_get numbers j ≡ Some k.1 → i < j
-      in_order k i j l e f = go (cases_lt i j) (cases_eq i j)
+      in_order : (a b i j : ℕ) → a < b → slice_get numbers i ≡ Some a → slice_get numbers j ≡ Some b → i < j
+      in_order a b i j l e f = go (cases_lt i j) (cases_eq i j)
         where
           go : (i < j) ⊎ (j ≤ i) → (i ≡ j) ⊎ (i ≡ j → ⊥) → i < j
           go (inl p) _ = p
           go (inr p) (inl d) = let same = some_inj (sym e ∙ ap (slice_get numbers) d ∙ f) in absurd (omega (arith, same, l))
-          go (inr p) (inr n) = let w = lesser numbers are.ascending j i k.1 k.0 (omega arith) f e in absurd (omega (arith, w, l))
+          go (inr p) (inr n) = let w = lesser numbers are.ascending j i b a (omega arith) f e in absurd (omega (arith, w, l))
 
-      back : (k : ℕ × ℕ) → length (numbers_of k) ≡ 2 → All (Contains numbers) (numbers_of k) → HasImage facts q [] (numbers_of k)
-          → (h : Hit) × (i : ℕ) × (j : ℕ) × Contains hits h × (h.image ≡ i ∷ j ∷ []) × (slice_get numbers i ≡ Some k.0) × (slice_get numbers j ≡ Some k.1)
-      back k two both h =
-          let is : numbers_of k ≡ k.0 ∷ k.1 ∷ [] = numbers_apart k (two_apart k two) in
-          let all' = subst (All (Contains numbers)) is both in
-          let h' = subst (HasImage facts q []) is h in
-          let i = slice_get-Contains numbers k.0 (All-contains (Contains numbers) (k.0 ∷ k.1 ∷ []) k.0 all' (Contains-head k.0 (k.1 ∷ []))) in
-          let j = slice_get-Contains numbers k.1 (All-contains (Contains numbers) (k.0 ∷ k.1 ∷ []) k.1 all' (Contains-later k.0 (k.1 ∷ []) k.1 (Contains-head k.1 []))) in
-          let l = in_order k i.0 j.0 (ascend_two k.0 k.1 h'.ascending) i.1 j.1 in
-          let image = in_part facts distinct numbers part are q (k.0 ∷ k.1 ∷ []) (i.0 ∷ j.0 ∷ []) (i.1, (j.1, tt)) (two_ascend i.0 j.0 l) h' in
-          (record { tuple = []; image = i.0 ∷ j.0 ∷ [] }, i.0, j.0, all.complete (record { tuple = []; image = i.0 ∷ j.0 ∷ [] }) image, refl, i.1, j.1)
+      back : (k : ClashFacts) → length (numbers_of k) ≡ 2 → All (Contains numbers) (numbers_of k) → HasImage facts q [] (numbers_of k) → (h : Hit) × Contains hits h × IsTwoAt numbers h.image k
+      back (One a) two both h = absurd (omega (arith, two))
+      back (Two a b) two both h =
+          let i = slice_get-Contains numbers a (All-contains (Contains numbers) (a ∷ b ∷ []) a both (Contains-head a (b ∷ []))) in
+          let j = slice_get-Contains numbers b (All-contains (Contains numbers) (a ∷ b ∷ []) b both (Contains-later a (b ∷ []) b (Contains-head b []))) in
+          let l = in_order a b i.0 j.0 (ascend_two a b h.ascending) i.1 j.1 in
+          let image = in_part facts distinct numbers part are q (a ∷ b ∷ []) (i.0 ∷ j.0 ∷ []) (i.1, (j.1, tt)) (two_ascend i.0 j.0 l) h in
+          (record { tuple = []; image = i.0 ∷ j.0 ∷ [] }, all.complete (record { tuple = []; image = i.0 ∷ j.0 ∷ [] }) image, (i.0, j.0, refl, i.1, j.1))
 
   named : (h : Hit) → IsHit part q h → (i : ℕ) → Contains h.image i → i < length numbers
   named h hit i c =
@@ -284,11 +263,11 @@ module _ (facts : List Fact) (distinct : AreDistinct facts) (numbers : List ℕ)
             (each_set hits (All-of (IsHit part q) hits (λ g c'. All-contains (IsHit part q) (h ∷ hits) g all (Contains-later h hits g c')))) d
       ])
 
-  pub more_sets : (limit : ℕ) → HasMoreHits part q limit → HasMore (λ set. All (Contains numbers) set × HasImage facts q [] set) limit
+  pub more_sets : (limit : ℕ) → HasMoreHits part q limit → HasMoreSets (λ set. All (Contains numbers) set × HasImage facts q [] set) limit
   more_sets limit more = record {
-    sets = map (λ (h : Hit). numbers_at numbers h.image) more.items;
+    items = map (λ (h : Hit). numbers_at numbers h.image) more.items;
     each = each_set more.items more.each;
-    distinct = sets_apart more.items more.each more.apart;
+    apart = sets_apart more.items more.each more.apart;
     longer = omega (arith, length-map more.items (λ (h : Hit). numbers_at numbers h.image), more.longer);
   }
 

@@ -1,4 +1,4 @@
--- The numbers of the facts that weren't seen alone, and the facts of numbers.
+-- The numbers of the facts that weren't shown alone, and the facts of numbers.
 use Rattle.std.proofs.Common.{◌≡◌, ℕ, ◌+◌, ◌<◌, ◌≤◌, List, [], ◌∷◌, ◌++◌, length, take, Contains, ◌⊎◌, inl, inr, ◌↔◌, slice_get, Some, sym, subst, arith}
 use Rattle.std.specs.List.{AllZip}
 use Rattle.std.proofs.lemmas.Bool.{cases_lt}
@@ -9,16 +9,18 @@ use Rattle.cq_terms.specs.Lists.{IsAscending}
 use Rattle.cq_meaning.proofs.Ascending.{All-of}
 use Rattle.cq_meaning.proofs.Listed.{append_left, append_right, append_cases}
 use Rattle.cq_meaning.proofs.Members.{Contains-cases, Contains-nil, Contains-one}
-use Rattle.conflict_finder.specs.declared.seen.Source.{Source}
-use Rattle.conflict_finder.specs.Seen.{HasKey}
+use Rattle.conflict_finder.specs.declared.clash_facts.ClashFacts.{ClashFacts}
+use Rattle.conflict_finder.specs.declared.clash_facts.ClashFacts.TheVariants.{One}
+use Rattle.conflict_finder.specs.declared.first_shown.Source.{Source}
+use Rattle.conflict_finder.specs.FirstShown.{HasKey}
 
--- exactly the numbers below this one that weren't seen alone, ascending
-pub record AreOthers (entries : List ((ℕ × ℕ) × Source)) (n : ℕ) (numbers : List ℕ) : Type 0 where
-  pub exact : (i : ℕ) → Contains numbers i ↔ ((i < n) × (HasKey entries (i, i) → ⊥))
+-- exactly the numbers below this one that weren't shown alone, ascending
+pub record AreOthers (entries : List (ClashFacts × Source)) (n : ℕ) (numbers : List ℕ) : Type 0 where
+  pub exact : (i : ℕ) → Contains numbers i ↔ ((i < n) × (HasKey entries (One i) → ⊥))
   pub ascending : IsAscending numbers
   pub few : length numbers ≤ n
 
-module _ (entries : List ((ℕ × ℕ) × Source)) where
+module _ (entries : List (ClashFacts × Source)) where
   pub others_none : AreOthers entries 0 []
   others_none = record {
     exact = λ i. ((λ c. absurd (Contains-nil i c)), (λ w. absurd (let l = w.0 in omega (arith, l))));
@@ -27,39 +29,39 @@ module _ (entries : List ((ℕ × ℕ) × Source)) where
   }
 
   module _ (n : ℕ) (numbers : List ℕ) (are : AreOthers entries n numbers) where
-    pub others_seen : HasKey entries (n, n) → AreOthers entries (n + 1) numbers
-    others_seen h = record {
+    pub others_shown : HasKey entries (One n) → AreOthers entries (n + 1) numbers
+    others_shown h = record {
       exact = λ i. ((λ c. there i ((are.exact i).0 c)), (λ w. back i (cases_lt i n) w.0 w.1));
       ascending = are.ascending;
       few = (let k = are.few in omega (arith, k));
     }
       where
-        there : (i : ℕ) → (i < n) × (HasKey entries (i, i) → ⊥) → (i < n + 1) × (HasKey entries (i, i) → ⊥)
+        there : (i : ℕ) → (i < n) × (HasKey entries (One i) → ⊥) → (i < n + 1) × (HasKey entries (One i) → ⊥)
         there i (l, none) = (omega arith, none)
 
-        back : (i : ℕ) → (i < n) ⊎ (n ≤ i) → i < n + 1 → (HasKey entries (i, i) → ⊥) → Contains numbers i
+        back : (i : ℕ) → (i < n) ⊎ (n ≤ i) → i < n + 1 → (HasKey entries (One i) → ⊥) → Contains numbers i
         back i (inl l) k none = (are.exact i).1 (l, none)
-        back i (inr l) k none = absurd (none (subst (λ m. HasKey entries (m, m)) (let e : n ≡ i = omega arith in e) h))
+        back i (inr l) k none = absurd (none (subst (λ m. HasKey entries (One m)) (let e : n ≡ i = omega arith in e) h))
 
-    pub others_new : (HasKey entries (n, n) → ⊥) → AreOthers entries (n + 1) (numbers ++ n ∷ [])
+    pub others_new : (HasKey entries (One n) → ⊥) → AreOthers entries (n + 1) (numbers ++ n ∷ [])
     others_new none = record {
       exact = λ i. ((λ c. there i (append_cases numbers (n ∷ []) i c)), (λ w. back i (cases_lt i n) w.0 w.1));
       ascending = all_pairs_push (λ i j. i < j) numbers n are.ascending (All-of (λ i. i < n) numbers (λ i c. ((are.exact i).0 c).0));
       few = (let k = are.few in omega (arith, k, length-append numbers (n ∷ [])));
     }
       where
-        last : (i : ℕ) → (n ≡ i) ⊎ Contains [] i → (i < n + 1) × (HasKey entries (i, i) → ⊥)
-        last i (inl e) = subst (λ m. (m < n + 1) × (HasKey entries (m, m) → ⊥)) e (omega arith, none)
+        last : (i : ℕ) → (n ≡ i) ⊎ Contains [] i → (i < n + 1) × (HasKey entries (One i) → ⊥)
+        last i (inl e) = subst (λ m. (m < n + 1) × (HasKey entries (One m) → ⊥)) e (omega arith, none)
         last i (inr z) = absurd (Contains-nil i z)
 
-        old : (i : ℕ) → (i < n) × (HasKey entries (i, i) → ⊥) → (i < n + 1) × (HasKey entries (i, i) → ⊥)
+        old : (i : ℕ) → (i < n) × (HasKey entries (One i) → ⊥) → (i < n + 1) × (HasKey entries (One i) → ⊥)
         old i (l, free) = (omega arith, free)
 
-        there : (i : ℕ) → Contains numbers i ⊎ Contains (n ∷ []) i → (i < n + 1) × (HasKey entries (i, i) → ⊥)
+        there : (i : ℕ) → Contains numbers i ⊎ Contains (n ∷ []) i → (i < n + 1) × (HasKey entries (One i) → ⊥)
         there i (inl c) = old i ((are.exact i).0 c)
         there i (inr c) = last i (Contains-cases n [] i c)
 
-        back : (i : ℕ) → (i < n) ⊎ (n ≤ i) → i < n + 1 → (HasKey entries (i, i) → ⊥) → Contains (numbers ++ n ∷ []) i
+        back : (i : ℕ) → (i < n) ⊎ (n ≤ i) → i < n + 1 → (HasKey entries (One i) → ⊥) → Contains (numbers ++ n ∷ []) i
         back i (inl l) k free = append_left numbers (n ∷ []) i ((are.exact i).1 (l, free))
         back i (inr l) k free = append_right numbers (n ∷ []) i (Contains-one n i (omega arith))
 

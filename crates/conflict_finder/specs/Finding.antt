@@ -3,6 +3,7 @@ use Rattle.std.specs.Prelude.{◌≡◌, ◌≢◌, ℕ, ◌<◌, ◌≤◌, ◌
 use Rattle.cq_terms.specs.declared.axioms.Axiom.{Axiom}
 use Rattle.cq_terms.specs.declared.facts.Fact.{Fact}
 use Rattle.cq_terms.specs.Knowledge.{Knowledge}
+use Rattle.cq_terms.specs.Lists.{HasMore}
 use Rattle.cq_terms.specs.Query.{Query}
 use Rattle.cq_meaning.specs.Conflicts.{IsSelfInconsistent, Conflict}
 use Rattle.cq_meaning.specs.Entailment.{HasImage}
@@ -16,15 +17,12 @@ use Rattle.conflict_finder.specs.declared.refusal.FindRefusal.{FindRefusal}
 use Rattle.conflict_finder.specs.declared.refusal.FindRefusal.TheVariants as refusal
 use Rattle.perfect_ref.specs.BreadthFirst.{HasMoreThan}
 
--- the axioms and the facts, with no priority
-abbrev pub kb_of : List Axiom → List Fact → Knowledge
-kb_of axioms facts = record { axioms = axioms; facts = facts; pairs = [] }
-
 -- the axiom of the number is a disjointness, and this is its query
 abbrev pub Forbids : List Axiom → ℕ → Query → Type 0
 Forbids axioms n q = (rule : Axiom) × (slice_get axioms n ≡ Some rule) × (disjointness_query rule ≡ Some q)
 
--- the closure of each disjointness, once, with the number of the axiom, ascending
+-- the closure of each disjointness, once, with the number of the axiom, ascending. The order of the members is left to the
+-- list: the place of a member, and which one is the least, are by the list that is answered
 pub record AreClosures (axioms : List Axiom) (closures : List (ℕ × List Member)) : Type 0 where
   pub each : All (λ c. (q : Query) × Forbids axioms c.0 q × Closes axioms q c.1) closures
   pub complete : (n : ℕ) (q : Query) → Forbids axioms n q → (members : List Member) × Contains closures (n, members)
@@ -35,7 +33,7 @@ abbrev pub Shows : List Fact → List (ℕ × List Member) → ℕ → ℕ → L
 Shows facts closures n place numbers = (members : List Member) × (m : Member) × Contains closures (n, members) × (slice_get members place ≡ Some m)
     × HasImage facts m.query [] numbers
 
--- it does, and no member of a lesser axiom and no lesser member of this one does
+-- it does, and no member of a lesser axiom and no member at a lesser place in the list of this one does
 pub record IsShownFirst (facts : List Fact) (closures : List (ℕ × List Member)) (numbers : List ℕ) (n place : ℕ) : Type 0 where
   pub shown : Shows facts closures n place numbers
   pub least : (m p : ℕ) → Shows facts closures m p numbers → (n < m) ⊎ ((n ≡ m) × (place ≤ p))
@@ -47,16 +45,13 @@ IsConflict kb (i ∷ []) = (i < length kb.facts) × IsSelfInconsistent kb i
 IsConflict kb (i ∷ j ∷ []) = (i < j) × Conflict kb i j
 IsConflict kb (i ∷ j ∷ l ∷ numbers) = ⊥
 
--- there are more that have P than so many: some list of them, each once, is longer
-pub record HasMore (P : List ℕ → Type 0) (limit : ℕ) : Type 0 where
-  pub sets : List (List ℕ)
-  pub each : All P sets
-  pub distinct : AllPairs (λ a b. a ≢ b) sets
-  pub longer : limit < length sets
+-- there are more sets of numbers that have P than the limit: some list of them, each once, is longer
+abbrev pub HasMoreSets : (List ℕ → Type 0) → ℕ → Type 0
+HasMoreSets P limit = HasMore (λ a b. a ≢ b) P limit
 
 -- the self-inconsistent facts and the pairs in conflict together are more than so many
 abbrev pub HasMoreConflicts : Knowledge → ℕ → Type 0
-HasMoreConflicts kb limit = HasMore (IsConflict kb) limit
+HasMoreConflicts kb limit = HasMoreSets (IsConflict kb) limit
 
 -- the axiom is the first disjointness whose closure has more members than the limit
 pub record IsFirstTooLarge (axioms : List Axiom) (limit n : ℕ) : Type 0 where

@@ -1,5 +1,5 @@
 -- The part of a table that has the facts of some numbers, and the keys of a query's images.
-use Rattle.std.specs.Prelude.{◌≡◌, ℕ, ◌<◌, ◌≤◌, ◌⊎◌, ◌↔◌, List, [], length, All, Contains, slice_get, Some, Bool, false, ◌==◌}
+use Rattle.std.specs.Prelude.{◌≡◌, ℕ, ◌<◌, ◌≤◌, ◌⊎◌, ◌↔◌, List, [], ◌∷◌, length, All, Contains, slice_get, Some, Bool, false, ◌==◌}
 use Rattle.std.specs.List.{AllZip}
 use Rattle.cq_terms.specs.declared.facts.Fact.{Fact}
 use Rattle.cq_terms.specs.declared.facts.Fact.TheVariants as fact
@@ -10,8 +10,10 @@ use Rattle.cq_terms.specs.Query.{Query}
 use Rattle.cq_meaning.specs.Entailment.{HasImage}
 use Rattle.cq_terms.specs.Lists.{IsAscending}
 use Rattle.cq_steps.specs.declared.closure.Member.{Member}
-use Rattle.conflict_finder.specs.declared.seen.Source.{Source}
-use Rattle.conflict_finder.specs.Seen.{numbers_of, HasKey}
+use Rattle.conflict_finder.specs.declared.clash_facts.ClashFacts.{ClashFacts}
+use Rattle.conflict_finder.specs.declared.clash_facts.ClashFacts.TheVariants.{One, Two}
+use Rattle.conflict_finder.specs.declared.first_shown.Source.{Source}
+use Rattle.conflict_finder.specs.FirstShown.{numbers_of, HasKey}
 
 -- the facts of these numbers, which ascend, in a table of distinct facts
 pub record ArePart (facts : List Fact) (numbers : List ℕ) (part : List Fact) : Type 0 where
@@ -27,13 +29,18 @@ IsShort q = (q.head ≡ []) × (0 < length q.body) × (length q.body ≤ 2)
 abbrev pub AreShort : List (ℕ × List Member) → Type 0
 AreShort closures = All (λ c. All (λ m. IsShort m.query) c.1) closures
 
--- exactly the keys that have P
-abbrev pub AreKeys : (ℕ × ℕ → Type 0) → List (ℕ × ℕ) → Type 0
-AreKeys P keys = (k : ℕ × ℕ) → Contains keys k ↔ P k
+-- the image has two facts of a part of a table, and these are their numbers in the whole
+abbrev pub IsTwoAt : List ℕ → List ℕ → ClashFacts → Type 0
+IsTwoAt numbers image (One a) = ⊥
+IsTwoAt numbers image (Two a b) = (i : ℕ) × (j : ℕ) × (image ≡ i ∷ j ∷ []) × (slice_get numbers i ≡ Some a) × (slice_get numbers j ≡ Some b)
 
--- the query shows the set alone, or it has an entry already
-abbrev pub IsSeenOrImage : List Fact → Query → (List ℕ → Type 0) → List ((ℕ × ℕ) × Source) → List ℕ → Type 0
-IsSeenOrImage facts q W old set = ((k : ℕ × ℕ) × HasKey old k × (set ≡ numbers_of k)) ⊎ (W set × HasImage facts q [] set)
+-- exactly the keys that have P
+abbrev pub AreKeys : (ClashFacts → Type 0) → List (ClashFacts) → Type 0
+AreKeys P keys = (k : ClashFacts) → Contains keys k ↔ P k
+
+-- the set has an entry already, or the query shows it
+abbrev pub IsNotedOrImage : List Fact → Query → (List ℕ → Type 0) → List (ClashFacts × Source) → List ℕ → Type 0
+IsNotedOrImage facts q W old set = ((k : ClashFacts) × HasKey old k × (set ≡ numbers_of k)) ⊎ (W set × HasImage facts q [] set)
 
 -- the two atoms are of one predicate
 abbrev pub are_alike : QAtom → QAtom → Bool

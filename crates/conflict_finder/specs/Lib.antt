@@ -1,3 +1,3 @@
 pub mod Finding
-pub mod Seen
+pub mod FirstShown
 pub mod Images

@@ -2,14 +2,16 @@
 
 ghost use Rattle.std.specs.Prelude.{◌≡◌, ◌<◌, ◌^◌, ℕ, length, All, IfOk, OnOk, Err};
 ghost use Rattle.cq_terms.specs.Conflicts.{couples, own_facts};
+ghost use Rattle.cq_terms.specs.Knowledge.{kb_of};
 ghost use Rattle.cq_meaning.specs.Conflicts.{AreConflicts};
-ghost use Rattle.conflict_finder.specs.Finding.{kb_of, AreClosures, HasMoreConflicts, IsFirstTooLarge, IsShownFirst, NoneTooLarge};
+ghost use Rattle.conflict_finder.specs.Finding.{AreClosures, HasMoreConflicts, IsFirstTooLarge, IsShownFirst, NoneTooLarge};
 
 use crate::FindRefusal;
 use crate::clashes::clashes;
 use crate::closures::closures;
 use crate::others::{facts_at, others};
 use crate::scan::{Pass, scan};
+use crate::sought::Sought;
 use cq_steps::{Closure, closing_list_is_closure};
 use cq_terms::{Axiom, Conflicts};
 use fact_index::Index;
@@ -18,7 +20,7 @@ use std::collections::BTreeMap;
 
 /// The conflicts of a table, and the closures of the disjointnesses.
 #[derive(Drop)]
-pub struct Found {
+pub struct FoundConflicts {
     /// The self-inconsistent facts and the pairs in conflict. Each clash names the least axiom and then the least member of
     /// its closure that matches with exactly its facts.
     pub conflicts: Conflicts,
@@ -35,7 +37,7 @@ pub fn find(
     index: &Index,
     max_cqs: u32,
     max_conflicts: u64,
-) -> Result<Found, FindRefusal>
+) -> Result<FoundConflicts, FindRefusal>
     requires axioms_fit { length axioms.now < 2 ^ 31 }
     requires limit_fits { max_conflicts < 2 ^ 31 }
 
@@ -56,28 +58,28 @@ pub fn find(
     let closures = closures(alloc, axioms, max_cqs)?;
     closing_list_is_closure();
     let count = index.len();
-    let mut seen = BTreeMap::new(alloc);
+    let mut shown = BTreeMap::new(alloc);
     let singles = Pass {
-        alone: true,
+        sought: Sought::Singles,
         index,
         numbers: &[],
         part: index,
         limit: max_conflicts,
     };
-    scan(alloc, &singles, &closures, &mut seen)?;
-    let numbers = others(alloc, count, &seen)?;
+    scan(alloc, &singles, &closures, &mut shown)?;
+    let numbers = others(alloc, count, &shown)?;
     let part = Index::build(alloc, &facts_at(alloc, index, &numbers)?)?;
     let pairs = Pass {
-        alone: false,
+        sought: Sought::Pairs,
         index,
         numbers: &numbers,
         part: &part,
         limit: max_conflicts,
     };
-    scan(alloc, &pairs, &closures, &mut seen)?;
-    let clashes = clashes(alloc, &seen)?;
+    scan(alloc, &pairs, &closures, &mut shown)?;
+    let clashes = clashes(alloc, &shown)?;
     let conflicts = Conflicts::new(alloc, count, clashes)?;
-    Ok(Found {
+    Ok(FoundConflicts {
         conflicts,
         closures,
     })

@@ -1,24 +1,29 @@
 //! The images of a query: single facts that it matches with, and pairs of facts.
 
-ghost use Rattle.std.specs.Prelude.{◌≡◌, ◌≢◌, ◌<◌, ◌≤◌, ◌↔◌, ◌∷◌, [], ℕ, length, All, Contains, IfOk, OnOk, IfSome, IfNone, Err, Some, IsTrue, slice_get, List, false};
+ghost use Rattle.std.specs.Prelude.{◌≡◌, ◌≢◌, ◌<◌, ◌≤◌, ◌↔◌, ◌∷◌, [], ℕ, length, All, Contains, IfOk, OnOk, IfSome, IfNone, Err, Some, IsTrue, slice_get, List};
 ghost use Rattle.cq_terms.specs.Conflicts.{couple};
 ghost use Rattle.cq_terms.specs.declared.facts.Fact.{Fact};
 ghost use Rattle.cq_terms.specs.declared.hits.Hit.{Hit};
 ghost use Rattle.cq_terms.specs.Knowledge.{AreDistinct};
 ghost use Rattle.cq_terms.specs.Query.{Query};
 ghost use Rattle.cq_meaning.specs.Entailment.{HasImage};
-ghost use Rattle.conflict_finder.specs.Finding.{HasMore};
-ghost use Rattle.conflict_finder.specs.Images.{are_alike, ArePart, AreKeys, IsOfFact, IsShort};
-ghost use Rattle.conflict_finder.specs.Seen.{numbers_of, IsWanted, IsWithin};
+ghost use Rattle.conflict_finder.specs.Finding.{HasMoreSets};
+ghost use Rattle.conflict_finder.specs.Images.{are_alike, ArePart, AreKeys, IsOfFact, IsShort, IsTwoAt};
+ghost use Rattle.conflict_finder.specs.FirstShown.{numbers_of, IsWanted};
 
-use crate::seen::Key;
+use crate::clash_facts::ClashFacts;
+use crate::sought::Sought;
 use cq_terms::{Cq, Fact, Hit, Kind, NoMemory, QAtom};
 use fact_index::Index;
 use join_eval::{JoinRefusal, matches};
 use std::alloc::Global;
 
 /// The facts with which alone the query matches.
-pub(crate) fn single_images(alloc: Global, index: &Index, query: &Cq) -> Result<Vec<Key>, NoMemory>
+pub(crate) fn single_images(
+    alloc: Global,
+    index: &Index,
+    query: &Cq,
+) -> Result<Vec<ClashFacts>, NoMemory>
     requires short { IsShort query.now }
 
     ensures exact { IfOk result (λ keys.
@@ -28,7 +33,7 @@ pub(crate) fn single_images(alloc: Global, index: &Index, query: &Cq) -> Result<
     distinct(index);
     for number in candidates(index, query.body()) {
         if matches_alone(alloc, query, index.fact(*number))? {
-            keys.push((*number, *number))?;
+            keys.push(ClashFacts::One(*number))?;
         }
     }
     Ok(keys)
@@ -100,25 +105,25 @@ pub(crate) fn pair_images(
     numbers: &[u32],
     query: &Cq,
     limit: u64,
-) -> Result<Vec<Key>, JoinRefusal>
+) -> Result<Vec<ClashFacts>, JoinRefusal>
     requires short { IsShort query.now }
     requires places { length numbers.now ≡ length part.now }
 
     ensures exact { (facts : List Fact) → ArePart facts numbers.now part.now → IfOk result (λ keys.
-        AreKeys (λ k. IsWanted false numbers.now (numbers_of k) × HasImage facts query.now [] (numbers_of k)) keys.items) }
+        AreKeys (λ k. IsWanted Sought.Pairs numbers.now (numbers_of k) × HasImage facts query.now [] (numbers_of k)) keys.items) }
     ensures many { (facts : List Fact) → ArePart facts numbers.now part.now → result ≡ Err JoinRefusal.TooManyHits
-        → HasMore (λ set. All (Contains numbers.now) set × HasImage facts query.now [] set) limit }
+        → HasMoreSets (λ set. All (Contains numbers.now) set × HasImage facts query.now [] set) limit }
 {
     let hits = matches(alloc, query, part, limit)?;
     Ok(pairs_of(alloc, numbers, &hits)?)
 }
 
 /// The pairs among the images, by their numbers in the whole table.
-fn pairs_of(alloc: Global, numbers: &[u32], hits: &[Hit]) -> Result<Vec<Key>, NoMemory>
+fn pairs_of(alloc: Global, numbers: &[u32], hits: &[Hit]) -> Result<Vec<ClashFacts>, NoMemory>
     requires named { All (λ h. All (λ i. i < length numbers.now) h.image) hits.now }
 
-    ensures exact { IfOk result (λ keys. AreKeys (λ k. (h : Hit) × (i : ℕ) × (j : ℕ) × Contains hits.now h
-        × (h.image ≡ i ∷ j ∷ []) × (slice_get numbers.now i ≡ Some k.0) × (slice_get numbers.now j ≡ Some k.1)) keys.items) }
+    ensures exact { IfOk result (λ keys. AreKeys (λ k. (h : Hit) × Contains hits.now h × IsTwoAt numbers.now h.image k)
+        keys.items) }
 {
     let mut keys = Vec::new(alloc);
     for hit in hits {
@@ -130,15 +135,14 @@ fn pairs_of(alloc: Global, numbers: &[u32], hits: &[Hit]) -> Result<Vec<Key>, No
 }
 
 /// The numbers of the two facts of an image, or `None` where it has not two.
-fn key_of(numbers: &[u32], hit: &Hit) -> Option<Key>
+fn key_of(numbers: &[u32], hit: &Hit) -> Option<ClashFacts>
     requires named { All (λ i. i < length numbers.now) hit.now.image }
 
-    ensures found { IfSome result (λ k. (i : ℕ) × (j : ℕ) × (hit.now.image ≡ i ∷ j ∷ [])
-        × (slice_get numbers.now i ≡ Some k.0) × (slice_get numbers.now j ≡ Some k.1)) }
+    ensures found { IfSome result (IsTwoAt numbers.now hit.now.image) }
     ensures none { IfNone result ((i j : ℕ) → hit.now.image ≢ i ∷ j ∷ []) }
 {
     let (first, second) = two_of(hit)?;
-    Some((numbers[first as usize], numbers[second as usize]))
+    Some(ClashFacts::Two(numbers[first as usize], numbers[second as usize]))
 }
 
 /// The two facts of an image, or `None` where it has not two.

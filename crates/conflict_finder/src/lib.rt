@@ -1,16 +1,18 @@
 //! Finds the conflicts of a table under its ontology.
 #![tactic(auto)]
 
+mod clash_facts;
 mod clashes;
 mod closures;
 mod finder;
+mod first_shown;
 mod images;
 mod others;
 mod refusal;
 mod scan;
-mod seen;
+mod sought;
 #[cfg(test)]
 mod tests;
 
-pub use finder::{Found, find};
+pub use finder::{FoundConflicts, find};
 pub use refusal::FindRefusal;

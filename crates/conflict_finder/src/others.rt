@@ -3,22 +3,23 @@
 ghost use Rattle.std.specs.Prelude.{◌≡◌, ◌<◌, ◌≤◌, ◌↔◌, ℕ, length, All, Contains, IfOk, Some, slice_get};
 ghost use Rattle.std.specs.List.{AllZip};
 ghost use Rattle.cq_terms.specs.Lists.{IsAscending};
-ghost use Rattle.conflict_finder.specs.Seen.{HasKey};
+ghost use Rattle.conflict_finder.specs.FirstShown.{HasKey};
 
-use crate::seen::Seen;
+use crate::clash_facts::ClashFacts;
+use crate::first_shown::FirstShown;
 use cq_terms::{Fact, NoMemory};
 use fact_index::Index;
 use std::alloc::Global;
 
-/// The ascending numbers of the facts that weren't seen alone.
-pub(crate) fn others(alloc: Global, count: u32, seen: &Seen) -> Result<Vec<u32>, NoMemory>
-    ensures exact { IfOk result (λ v. (n : ℕ) → Contains v.items n ↔ ((n < count) × ¬ HasKey seen.now.entries (n, n))) }
+/// The ascending numbers of the facts that weren't shown alone.
+pub(crate) fn others(alloc: Global, count: u32, shown: &FirstShown) -> Result<Vec<u32>, NoMemory>
+    ensures exact { IfOk result (λ v. (n : ℕ) → Contains v.items n ↔ ((n < count) × ¬ HasKey shown.now.entries (ClashFacts.One n))) }
     ensures ascending { IfOk result (λ v. IsAscending v.items) }
     ensures few { IfOk result (λ v. length v.items ≤ count) }
 {
     let mut numbers = Vec::new(alloc);
     for number in 0..count {
-        if !seen.contains_key(&(number, number)) {
+        if !shown.contains_key(&ClashFacts::One(number)) {
             numbers.push(number)?;
         }
     }

@@ -1,15 +1,18 @@
 //! All queries of the closures in order, each with the facts that it shows.
 
-ghost use Rattle.std.specs.Prelude.{◌≡◌, ◌<◌, ◌≤◌, ◌^◌, ℕ, [], List, length, All, AllPairs, Contains, IfOk, OnOk, Err, IsTrue, IsFalse};
+ghost use Rattle.std.specs.Prelude.{◌≡◌, ◌<◌, ◌≤◌, ◌^◌, ℕ, [], List, length, All, AllPairs, Contains, IfOk, OnOk, Err};
 ghost use Rattle.cq_meaning.specs.Entailment.{HasImage};
 ghost use Rattle.cq_steps.specs.declared.closure.Member.{Member};
-ghost use Rattle.conflict_finder.specs.declared.seen.Source.{Source};
-ghost use Rattle.conflict_finder.specs.Finding.{HasMore};
-ghost use Rattle.conflict_finder.specs.Images.{ArePart, AreKeys, AreShort, IsShort, IsSeenOrImage};
-ghost use Rattle.conflict_finder.specs.Seen.{numbers_of, AddsNew, AreFirst, IsEarlier, IsSeen, IsSeenOrShown, IsWanted, IsWithin};
+ghost use Rattle.conflict_finder.specs.declared.clash_facts.ClashFacts.{ClashFacts};
+ghost use Rattle.conflict_finder.specs.declared.first_shown.Source.{Source};
+ghost use Rattle.conflict_finder.specs.Finding.{HasMoreSets};
+ghost use Rattle.conflict_finder.specs.Images.{ArePart, AreKeys, AreShort, IsShort, IsNotedOrImage};
+ghost use Rattle.conflict_finder.specs.FirstShown.{numbers_of, AddsNew, AreFirst, IsEarlier, IsScanned, IsNotedOrShown, IsWanted, IsWithin};
 
+use crate::clash_facts::ClashFacts;
+use crate::first_shown::{FirstShown, Source, note_all};
 use crate::images::{pair_images, single_images};
-use crate::seen::{Key, Seen, Source, note_all};
+use crate::sought::Sought;
 use cq_steps::{Closure, Member};
 use cq_terms::Cq;
 use fact_index::Index;
@@ -20,7 +23,7 @@ use std::alloc::Global;
 /// and at most so many of both together.
 #[derive(Clone, Copy)]
 pub(crate) struct Pass<'a> {
-    pub alone: bool,
+    pub sought: Sought,
     pub index: &'a Index,
     pub numbers: &'a [u32],
     pub part: &'a Index,
@@ -33,23 +36,23 @@ pub(crate) fn scan(
     alloc: Global,
     pass: &Pass,
     closures: &[(u32, Closure)],
-    seen: &mut Seen,
+    shown: &mut FirstShown,
 ) -> Result<(), JoinRefusal>
-    requires part { IsFalse pass.now.alone → ArePart pass.now.index.now pass.now.numbers.now pass.now.part.now }
+    requires part { pass.now.sought ≡ Sought.Pairs → ArePart pass.now.index.now pass.now.numbers.now pass.now.part.now }
     requires short { AreShort closures.now }
     requires ascending { AllPairs (λ c d. c.0 < d.0) closures.now }
-    requires first { AreFirst pass.now.index.now closures.now seen.old.entries }
-    requires few { length seen.old.entries ≤ pass.now.limit }
+    requires first { AreFirst pass.now.index.now closures.now shown.old.entries }
+    requires few { length shown.old.entries ≤ pass.now.limit }
 
-    ensures seen { OnOk result (IsSeen pass.now.index.now closures.now pass.now.alone pass.now.numbers.now (λ m p. Unit {0})
-        seen.old.entries seen.new.entries) }
-    ensures few { OnOk result (length seen.new.entries ≤ pass.now.limit) }
+    ensures shown { OnOk result (IsScanned pass.now.index.now closures.now pass.now.sought pass.now.numbers.now (λ m p. Unit {0})
+        shown.old.entries shown.new.entries) }
+    ensures few { OnOk result (length shown.new.entries ≤ pass.now.limit) }
     ensures many { result ≡ Err JoinRefusal.TooManyHits
-        → HasMore (IsSeenOrShown pass.now.index.now closures.now pass.now.alone pass.now.numbers.now seen.old.entries)
+        → HasMoreSets (IsNotedOrShown pass.now.index.now closures.now pass.now.sought pass.now.numbers.now shown.old.entries)
         pass.now.limit }
 {
     for closure in closures {
-        scan_members(alloc, pass, closure.0, closure.1.members(), seen)?;
+        scan_members(alloc, pass, closure.0, closure.1.members(), shown)?;
     }
     Ok(())
 }
@@ -60,24 +63,24 @@ fn scan_members(
     pass: &Pass,
     rule: u32,
     members: &[Member],
-    seen: &mut Seen,
+    shown: &mut FirstShown,
 ) -> Result<(), JoinRefusal>
-    requires part { IsFalse pass.now.alone → ArePart pass.now.index.now pass.now.numbers.now pass.now.part.now }
+    requires part { pass.now.sought ≡ Sought.Pairs → ArePart pass.now.index.now pass.now.numbers.now pass.now.part.now }
     requires short { All (λ m. IsShort m.query) members.now }
     requires members_fit { length members.now < 2 ^ 32 }
-    requires few { length seen.old.entries ≤ pass.now.limit }
+    requires few { length shown.old.entries ≤ pass.now.limit }
 
-    ensures seen { (closures : List (ℕ × List Member)) (first : List ((ℕ × ℕ) × Source)) → Contains closures (rule, members.now)
+    ensures shown { (closures : List (ℕ × List Member)) (first : List (ClashFacts × Source)) → Contains closures (rule, members.now)
         → AllPairs (λ c d. c.0 < d.0) closures
-        → IsSeen pass.now.index.now closures pass.now.alone pass.now.numbers.now (IsEarlier rule 0) first seen.old.entries
-        → OnOk result (IsSeen pass.now.index.now closures pass.now.alone pass.now.numbers.now
-        (IsEarlier rule (length members.now)) first seen.new.entries) }
-    ensures few { OnOk result (length seen.new.entries ≤ pass.now.limit) }
-    ensures many { (closures : List (ℕ × List Member)) (first : List ((ℕ × ℕ) × Source)) → Contains closures (rule, members.now)
+        → IsScanned pass.now.index.now closures pass.now.sought pass.now.numbers.now (IsEarlier rule 0) first shown.old.entries
+        → OnOk result (IsScanned pass.now.index.now closures pass.now.sought pass.now.numbers.now
+        (IsEarlier rule (length members.now)) first shown.new.entries) }
+    ensures few { OnOk result (length shown.new.entries ≤ pass.now.limit) }
+    ensures many { (closures : List (ℕ × List Member)) (first : List (ClashFacts × Source)) → Contains closures (rule, members.now)
         → AllPairs (λ c d. c.0 < d.0) closures
-        → IsSeen pass.now.index.now closures pass.now.alone pass.now.numbers.now (IsEarlier rule 0) first seen.old.entries
+        → IsScanned pass.now.index.now closures pass.now.sought pass.now.numbers.now (IsEarlier rule 0) first shown.old.entries
         → result ≡ Err JoinRefusal.TooManyHits
-        → HasMore (IsSeenOrShown pass.now.index.now closures pass.now.alone pass.now.numbers.now first) pass.now.limit }
+        → HasMoreSets (IsNotedOrShown pass.now.index.now closures pass.now.sought pass.now.numbers.now first) pass.now.limit }
 {
     let mut place: u32 = 0;
     for member in members {
@@ -85,7 +88,7 @@ fn scan_members(
             rule,
             member: place,
         };
-        scan_query(alloc, pass, source, &member.query, seen)?;
+        scan_query(alloc, pass, source, &member.query, shown)?;
         place += 1;
     }
     Ok(())
@@ -97,40 +100,39 @@ fn scan_query(
     pass: &Pass,
     source: Source,
     query: &Cq,
-    seen: &mut Seen,
+    shown: &mut FirstShown,
 ) -> Result<(), JoinRefusal>
-    requires part { IsFalse pass.now.alone → ArePart pass.now.index.now pass.now.numbers.now pass.now.part.now }
+    requires part { pass.now.sought ≡ Sought.Pairs → ArePart pass.now.index.now pass.now.numbers.now pass.now.part.now }
     requires short { IsShort query.now }
 
-    ensures adds { OnOk result (AddsNew (λ k. IsWanted pass.now.alone pass.now.numbers.now (numbers_of k)
-        × HasImage pass.now.index.now query.now [] (numbers_of k)) source seen.old.entries seen.new.entries) }
-    ensures few { OnOk result (length seen.new.entries ≤ pass.now.limit) }
+    ensures adds { OnOk result (AddsNew (λ k. IsWanted pass.now.sought pass.now.numbers.now (numbers_of k)
+        × HasImage pass.now.index.now query.now [] (numbers_of k)) source shown.old.entries shown.new.entries) }
+    ensures few { OnOk result (length shown.new.entries ≤ pass.now.limit) }
     ensures many { result ≡ Err JoinRefusal.TooManyHits
-        → HasMore (IsSeenOrImage pass.now.index.now query.now (IsWithin pass.now.alone pass.now.numbers.now)
-        seen.old.entries) pass.now.limit }
+        → HasMoreSets (IsNotedOrImage pass.now.index.now query.now (IsWithin pass.now.sought pass.now.numbers.now)
+        shown.old.entries) pass.now.limit }
 {
     let keys = images(alloc, pass, query)?;
-    note_all(seen, &keys, source)?;
-    if seen.len() as u64 > pass.limit {
+    note_all(shown, &keys, source)?;
+    if shown.len() as u64 > pass.limit {
         return Err(JoinRefusal::TooManyHits);
     }
     Ok(())
 }
 
 /// What the query shows.
-fn images(alloc: Global, pass: &Pass, query: &Cq) -> Result<Vec<Key>, JoinRefusal>
-    requires part { IsFalse pass.now.alone → ArePart pass.now.index.now pass.now.numbers.now pass.now.part.now }
+fn images(alloc: Global, pass: &Pass, query: &Cq) -> Result<Vec<ClashFacts>, JoinRefusal>
+    requires part { pass.now.sought ≡ Sought.Pairs → ArePart pass.now.index.now pass.now.numbers.now pass.now.part.now }
     requires short { IsShort query.now }
 
-    ensures exact { IfOk result (λ keys. AreKeys (λ k. IsWanted pass.now.alone pass.now.numbers.now (numbers_of k)
+    ensures exact { IfOk result (λ keys. AreKeys (λ k. IsWanted pass.now.sought pass.now.numbers.now (numbers_of k)
         × HasImage pass.now.index.now query.now [] (numbers_of k)) keys.items) }
     ensures many { result ≡ Err JoinRefusal.TooManyHits
-        → HasMore (λ set. IsWithin pass.now.alone pass.now.numbers.now set
+        → HasMoreSets (λ set. IsWithin pass.now.sought pass.now.numbers.now set
         × HasImage pass.now.index.now query.now [] set) pass.now.limit }
 {
-    if pass.alone {
-        Ok(single_images(alloc, pass.index, query)?)
-    } else {
-        pair_images(alloc, pass.part, pass.numbers, query, pass.limit)
+    match pass.sought {
+        Sought::Singles => Ok(single_images(alloc, pass.index, query)?),
+        Sought::Pairs => pair_images(alloc, pass.part, pass.numbers, query, pass.limit),
     }
 }

@@ -1,11 +1,11 @@
 //! What no clause says: the normal forms and moves of queries worked by hand, and that memory is enough for them.
 
-ghost use Rattle.std.specs.Prelude.{IsTrue, All};
+ghost use Rattle.std.specs.Prelude.{◌≡◌, ◌∷◌, [], IsTrue, All, IfOk};
 ghost use Rattle.cq_terms.specs.Query.{StandsIn, IsMeant};
 
 use crate::{
-    Closure, Move, closing_list_is_closure, derived_is_in_closure, negative_query, normal,
-    successors,
+    Closure, Member, Move, apply, closing_list_is_closure, derived_is_in_closure, negative_query,
+    normal, reduce, successors,
 };
 use cq_terms::{Axiom, Basic, Cq, NoMemory, QAtom, Role, Term};
 use std::alloc::Global;
@@ -288,5 +288,128 @@ fn the_query_of_a_disjointness_is_rewritten(rt: HostRuntime) -> Result<(), Fail>
     assert_eq!(rt; closure.members().len(), 1);
     closing_list_is_closure();
     derived_is_in_closure();
+    Ok(())
+}
+
+/// Whether a step gave the query of this head and body.
+fn is_query(made: &Option<Cq>, head: &[Term], body: &[QAtom]) -> bool {
+    match made {
+        Some(query) => query.head() == head && query.body() == body,
+        None => false,
+    }
+}
+
+/// What the axiom makes of an atom of ?x <- A(?x), P(?x, _), S(?x, ?x).
+fn applied(
+    rt: &impl Abort,
+    alloc: Global,
+    atom: u32,
+    rule: &Axiom,
+) -> Result<Option<Cq>, NoMemory> {
+    let body = [name(0, X), link(0, X, ANY), link(1, X, X)];
+    let given = query(rt, alloc, &[X], &body)?;
+    assert!(rt; (atom as usize) < given.body().len());
+    apply(alloc, &given, atom, rule)
+}
+
+/// The axiom step on an atom asks for the left side of an inclusion what the atom asks for its right side, and leaves the
+/// head and the other atoms. B < A takes A(?x) to B(?x). B < some P takes P(?x, _) to B(?x), and some inverse S < some P takes
+/// it to S(_, ?x). An inclusion in some P doesn't apply to A(?x), nor to an atom of another role; one in some S doesn't apply to
+/// S(?x, ?x), whose second place is bound; a disjointness applies to none.
+#[test]
+fn an_axiom_step_asks_for_the_left_side(rt: HostRuntime) -> Result<(), Fail> {
+    let alloc = rt.alloc();
+    let below_name = Axiom::Sub {
+        left: Basic::Concept(1),
+        right: Basic::Concept(0),
+    };
+    let made = applied(&rt, alloc, 0, &below_name)?;
+    assert!(rt; is_query(&made, &[X], &[name(1, X), link(0, X, ANY), link(1, X, X)]));
+    let below_role = Axiom::Sub {
+        left: Basic::Concept(1),
+        right: some(0),
+    };
+    let made = applied(&rt, alloc, 1, &below_role)?;
+    assert!(rt; is_query(&made, &[X], &[name(0, X), name(1, X), link(1, X, X)]));
+    let inverse = Axiom::Sub {
+        left: some_inverse(1),
+        right: some(0),
+    };
+    let made = applied(&rt, alloc, 1, &inverse)?;
+    assert!(rt; is_query(&made, &[X], &[name(0, X), link(1, X, X), link(1, ANY, X)]));
+    Ok(())
+}
+
+#[test]
+fn an_axiom_step_needs_the_right_side(rt: HostRuntime) -> Result<(), Fail> {
+    let alloc = rt.alloc();
+    let bound = Axiom::Sub {
+        left: Basic::Concept(1),
+        right: some(1),
+    };
+    let apart = Axiom::Disjoint {
+        left: Basic::Concept(1),
+        right: Basic::Concept(0),
+    };
+    for (atom, rule) in [(0, &bound), (1, &bound), (2, &bound), (0, &apart)] {
+        assert!(rt; applied(&rt, alloc, atom, rule)?.is_none());
+    }
+    Ok(())
+}
+
+/// What the reduce step makes of two atoms with this head.
+fn reduced(
+    rt: &impl Abort,
+    alloc: Global,
+    head: &[Term],
+    body: &[QAtom; 2],
+) -> Result<Option<Cq>, NoMemory> {
+    let given = query(rt, alloc, head, body)?;
+    assert!(rt; given.body().len() > 1);
+    reduce(alloc, &given, 0, 1)
+}
+
+/// The reduce step unifies two atoms by their most general unifier, in the head too, and what is unbound then becomes `_`.
+/// P(?x, ?y) and P(?z, ?y) unify by ?z to ?x, so ?x ?z becomes ?x ?x and ?y is unbound. In P(?x, _) and P(_, ?y) each `_` gives
+/// way. P(?x, a) and P(?y, b) have no unifier, nor have A(?x) and P(?x, ?y).
+#[test]
+fn a_reduce_step_unifies_two_atoms(rt: HostRuntime) -> Result<(), Fail> {
+    let alloc = rt.alloc();
+    let made = reduced(&rt, alloc, &[X, Z], &[link(0, X, Y), link(0, Z, Y)])?;
+    assert!(rt; is_query(&made, &[X, X], &[link(0, X, ANY)]));
+    let made = reduced(&rt, alloc, &[X, Y], &[link(0, X, ANY), link(0, ANY, Y)])?;
+    assert!(rt; is_query(&made, &[X, Y], &[link(0, X, Y)]));
+    let made = reduced(&rt, alloc, &[X], &[link(0, X, A), link(0, Y, B)])?;
+    assert!(rt; made.is_none());
+    let made = reduced(&rt, alloc, &[X], &[name(0, X), link(0, X, Y)])?;
+    assert!(rt; made.is_none());
+    Ok(())
+}
+
+/// The query ?x <- A(?x) of a concept.
+fn all_of(alloc: Global, pred: u32) -> Result<Cq, NoMemory>
+    ensures { IfOk result (λ q. q ≡ record { head = Term.Var 0 ∷ []; body = QAtom.Concept pred (Term.Var 0) ∷ [] }) }
+{
+    let mut head = Vec::new(alloc);
+    head.push(X)?;
+    let mut body = Vec::new(alloc);
+    body.push(QAtom::Concept { pred, at: X })?;
+    Ok(Cq::new(head, body))
+}
+
+/// Under B < A the query of A has the query of B behind it.
+#[test]
+fn a_member_is_put_last(rt: HostRuntime) -> Result<(), Fail> {
+    let alloc = rt.alloc();
+    let step = Some((0, Move::Axiom { atom: 0, axiom: 0 }));
+    let first = all_of(alloc, 0)?;
+    let query = all_of(alloc, 1)?;
+    let mut closure = Closure::first(alloc, first)?;
+    closure.push(Member { query, step })?;
+    let members = closure.members();
+    assert_eq!(rt; members.len(), 2);
+    assert_eq!(rt; members[0].query.body(), [name(0, X)].as_slice());
+    assert_eq!(rt; members[1].query.body(), [name(1, X)].as_slice());
+    assert_eq!(rt; members[1].step, step);
     Ok(())
 }

@@ -7,7 +7,7 @@ use Rattle.std.proofs.lemmas.List.Quantifiers.{position-Some}
 use Rattle.std.proofs.lemmas.List.Elements.{All-head, All-tail, All-push, All-weaker}
 use Rattle.std.specs.List.{list_any}
 use Rattle.indexmap.specs.IndexSet.{insert_key}
-use Rattle.fact_index.specs.declared.groups.Entry.{Entry}
+use Rattle.cq_terms.specs.declared.flat_lists.KeyedNumber.{KeyedNumber}
 use Rattle.fact_index.specs.declared.place.Place.{Place}
 use Rattle.fact_index.specs.declared.place.Place.TheVariants as place
 use Rattle.fact_index.specs.contracts.place.PlacePartialEq.TheImpl.{eq-value}
@@ -119,34 +119,34 @@ apart_put places new apart = by (list_any (same new) places) refl
     by false e = apart_pushed places new apart e
 
 -- entries tell the same where a place is put
-pub told_put : (places : List Place) (new : Place) (entries : List Entry) → All (λ e. e.group < length places) entries → told_by (insert_key same places new) entries ≡ told_by places entries
+pub told_put : (places : List Place) (new : Place) (entries : List KeyedNumber) → All (λ e. e.key < length places) entries → told_by (insert_key same places new) entries ≡ told_by places entries
 told_put places new [] named = refl
 told_put places new (e ∷ entries) named =
-    let head : e.group < length places = All-head (λ (x : Entry). x.group < length places) e entries named in
-    let before : slice_get places e.group ≡ Some (get_or places e.group new) = slice_get-get_or places e.group new head in
-    let here : slice_get (insert_key same places new) e.group ≡ slice_get places e.group = stays_put places new e.group (get_or places e.group new) before ∙ sym before in
-    let more = told_put places new entries (All-tail (λ (x : Entry). x.group < length places) e entries named) in
+    let head : e.key < length places = All-head (λ (x : KeyedNumber). x.key < length places) e entries named in
+    let before : slice_get places e.key ≡ Some (get_or places e.key new) = slice_get-get_or places e.key new head in
+    let here : slice_get (insert_key same places new) e.key ≡ slice_get places e.key = stays_put places new e.key (get_or places e.key new) before ∙ sym before in
+    let more = told_put places new entries (All-tail (λ (x : KeyedNumber). x.key < length places) e entries named) in
     rw (here, more) refl
 
-module _ (places : List Place) (entries : List Entry) (new : Place) (number group : ℕ) (whole : IsWhole places entries) where
+module _ (places : List Place) (entries : List KeyedNumber) (new : Place) (number key : ℕ) (whole : IsWhole places entries) where
   -- a place was put, and no entry yet
   pub whole_put : IsWhole (insert_key same places new) entries
   whole_put = record {
     apart = apart_put places new whole.apart;
-    named = All-weaker (λ (e : Entry). e.group < length places) (λ (e : Entry). e.group < length (insert_key same places new)) (λ e h. omega (arith, h, longer_put places new)) entries whole.named;
+    named = All-weaker (λ (e : KeyedNumber). e.key < length places) (λ (e : KeyedNumber). e.key < length (insert_key same places new)) (λ e h. omega (arith, h, longer_put places new)) entries whole.named;
   }
 
-  module _ (at : slice_get (insert_key same places new) group ≡ Some new) where
+  module _ (at : slice_get (insert_key same places new) key ≡ Some new) where
     -- an entry of the place was put
-    pub whole_pushed : IsWhole (insert_key same places new) (entries ++ (record { group = group; number = number }) ∷ [])
+    pub whole_pushed : IsWhole (insert_key same places new) (entries ++ (record { key = key; value = number }) ∷ [])
     whole_pushed = record {
       apart = whole_put.apart;
-      named = All-push (λ (e : Entry). e.group < length (insert_key same places new)) entries (record { group = group; number = number }) whole_put.named (slice_get_within (insert_key same places new) group new at);
+      named = All-push (λ (e : KeyedNumber). e.key < length (insert_key same places new)) entries (record { key = key; value = number }) whole_put.named (slice_get_within (insert_key same places new) key new at);
     }
 
-    pub told_pushed : told_by (insert_key same places new) (entries ++ (record { group = group; number = number }) ∷ []) ≡ told_by places entries ++ (Some new, number) ∷ []
+    pub told_pushed : told_by (insert_key same places new) (entries ++ (record { key = key; value = number }) ∷ []) ≡ told_by places entries ++ (Some new, number) ∷ []
     told_pushed =
-        map-append (λ (e : Entry). (slice_get (insert_key same places new) e.group, e.number)) entries ((record { group = group; number = number }) ∷ [])
+        map-append (λ (e : KeyedNumber). (slice_get (insert_key same places new) e.key, e.value)) entries ((record { key = key; value = number }) ∷ [])
         ∙ rw (told_put places new entries whole.named, at) refl
 
 -- a place that is found stands there

@@ -9,12 +9,12 @@ use Rattle.cq_terms.specs.declared.facts.Fact.{Fact}
 use Rattle.cq_terms.specs.declared.facts.Fact.TheVariants as fact
 use Rattle.cq_meaning.proofs.Members.{Contains-later}
 use Rattle.cq_terms.specs.Lists.{IsAscending}
-use Rattle.fact_index.specs.declared.groups.Entry.{Entry}
+use Rattle.cq_terms.specs.declared.flat_lists.KeyedNumber.{KeyedNumber}
+use Rattle.cq_terms.specs.FlatLists.{values_at, AreGrouped}
 use Rattle.fact_index.specs.declared.place.Place.{Place}
 use Rattle.fact_index.specs.declared.place.Place.TheVariants as place
 use Rattle.fact_index.specs.Numbers.{AreNumbers}
 use Rattle.fact_index.specs.Places.{StandsAt, places_of}
-use Rattle.fact_index.specs.Groups.{numbers_in, AreGroups}
 use Rattle.fact_index.specs.Indexed.{IsIndexed}
 use Rattle.cq_terms.specs.Knowledge.{AreDistinct}
 use Rattle.fact_index.specs.Gathered.{ArePlaces, IsWhole, told_by, told_of}
@@ -48,9 +48,9 @@ length-told_of number (f ∷ facts) =
     omega (arith, length-append (telling f number) (told_of (suc number) facts), places_few f number, length-told_of (suc number) facts)
 
 -- there are at most three entries for each fact
-pub few_entries : (places : List Place) (entries : List Entry) (facts : List Fact) → told_by places entries ≡ told_of 0 facts → length entries ≤ 3 * length facts
+pub few_entries : (places : List Place) (entries : List KeyedNumber) (facts : List Fact) → told_by places entries ≡ told_of 0 facts → length entries ≤ 3 * length facts
 few_entries places entries facts e =
-    let all : length (told_by places entries) ≡ length entries = length-map entries (λ (x : Entry). (slice_get places x.group, x.number)) in
+    let all : length (told_by places entries) ≡ length entries = length-map entries (λ (x : KeyedNumber). (slice_get places x.key, x.value)) in
     omega (arith, all, ap length e, length-told_of 0 facts)
 
 -- ---- the numbers of a place
@@ -118,40 +118,40 @@ picked-told_of p number [] = refl
 picked-told_of p number (f ∷ facts) =
     picked-fact p f number (told_of (suc number) facts) ∙ ap (λ xs. if stands p f then number ∷ xs else xs) (picked-told_of p (suc number) facts)
 
-module _ (places : List Place) (apart : ArePlaces places) (group : ℕ) (p : Place) (at : slice_get places group ≡ Some p) where
-  -- an entry is of the place exactly where it is of its group
-  same_group : (e : Entry) → e.group < length places → (e.group == group) ≡ is_at p (slice_get places e.group)
-  same_group e named = by (e.group == group) refl
+module _ (places : List Place) (apart : ArePlaces places) (key : ℕ) (p : Place) (at : slice_get places key ≡ Some p) where
+  -- an entry is of the place exactly where its key is the place's number
+  same_key : (e : KeyedNumber) → e.key < length places → (e.key == key) ≡ is_at p (slice_get places e.key)
+  same_key e named = by (e.key == key) refl
     where
       q : Place
-      q = get_or places e.group p
+      q = get_or places e.key p
 
-      by : (b : Bool) → (e.group == group) ≡ b → b ≡ is_at p (slice_get places e.group)
+      by : (b : Bool) → (e.key == key) ≡ b → b ≡ is_at p (slice_get places e.key)
       by true is =
-          let equal = (Decides-eqb e.group group).0 is in
+          let equal = (Decides-eqb e.key key).0 is in
           rw (equal, at) (sym (same_refl p))
-      by false is = no (is_at p (slice_get places e.group)) refl
+      by false is = no (is_at p (slice_get places e.key)) refl
         where
-          no : (c : Bool) → is_at p (slice_get places e.group) ≡ c → false ≡ c
+          no : (c : Bool) → is_at p (slice_get places e.key) ≡ c → false ≡ c
           no false _ = refl
           no true there =
-              let here = slice_get-get_or places e.group p named in
-              let equal = same_is p (get_or places e.group p) (rw here at there) in
-              let one_group = apart e.group group p (here ∙ ap Some (sym equal)) at in
-              let is_not : (e.group == group) ≡ true = (Decides-eqb e.group group).1 one_group in
-              let is_false : (e.group == group) ≡ false = is in
+              let here = slice_get-get_or places e.key p named in
+              let equal = same_is p (get_or places e.key p) (rw here at there) in
+              let one_key = apart e.key key p (here ∙ ap Some (sym equal)) at in
+              let is_not : (e.key == key) ≡ true = (Decides-eqb e.key key).1 one_key in
+              let is_false : (e.key == key) ≡ false = is in
               cc
 
-  numbers_in-told : (entries : List Entry) → All (λ e. e.group < length places) entries → numbers_in group entries ≡ picked p (told_by places entries)
-  numbers_in-told [] named = refl
-  numbers_in-told (e ∷ entries) named =
-      let more = numbers_in-told entries (All-tail (λ (x : Entry). x.group < length places) e entries named) in
-      let is = same_group e (All-head (λ (x : Entry). x.group < length places) e entries named) in
-      by (e.group == group) refl is more
+  values_at-told : (entries : List KeyedNumber) → All (λ e. e.key < length places) entries → values_at entries key ≡ picked p (told_by places entries)
+  values_at-told [] named = refl
+  values_at-told (e ∷ entries) named =
+      let more = values_at-told entries (All-tail (λ (x : KeyedNumber). x.key < length places) e entries named) in
+      let is = same_key e (All-head (λ (x : KeyedNumber). x.key < length places) e entries named) in
+      by (e.key == key) refl is more
     where
-      by : (b : Bool) → (e.group == group) ≡ b → (e.group == group) ≡ is_at p (slice_get places e.group) → numbers_in group entries ≡ picked p (told_by places entries) → numbers_in group (e ∷ entries) ≡ picked p (told_by places (e ∷ entries))
-      by true is same more = let h : is_at p (slice_get places e.group) ≡ true = sym same ∙ is in rw (is, h) (ap (λ xs. e.number ∷ xs) more)
-      by false is same more = let h : is_at p (slice_get places e.group) ≡ false = sym same ∙ is in rw (is, h) more
+      by : (b : Bool) → (e.key == key) ≡ b → (e.key == key) ≡ is_at p (slice_get places e.key) → values_at entries key ≡ picked p (told_by places entries) → values_at (e ∷ entries) key ≡ picked p (told_by places (e ∷ entries))
+      by true is same more = let h : is_at p (slice_get places e.key) ≡ true = sym same ∙ is in rw (is, h) (ap (λ xs. e.value ∷ xs) more)
+      by false is same more = let h : is_at p (slice_get places e.key) ≡ false = sym same ∙ is in rw (is, h) more
 
 -- ---- the numbers of facts at a place
 
@@ -212,10 +212,10 @@ standing-all p number (g ∷ facts) (suc k) f here at = by (stands p g) (standin
     by true more = let h : suc number + k ≡ number + suc k = omega arith in Contains-later number (standing p (suc number) facts) (number + suc k) (subst (Contains (standing p (suc number) facts)) h more)
     by false more = let h : suc number + k ≡ number + suc k = omega arith in subst (Contains (standing p (suc number) facts)) h more
 
--- the numbers of a group are those of the facts at its place
-pub group_numbers : (places : List Place) (entries : List Entry) (facts : List Fact) → IsWhole places entries → told_by places entries ≡ told_of 0 facts → (group : ℕ) (p : Place) → slice_get places group ≡ Some p → AreNumbers (StandsAt p) facts (numbers_in group entries)
-group_numbers places entries facts whole told group p at =
-    let is : numbers_in group entries ≡ standing p 0 facts = numbers_in-told places whole.apart group p at entries whole.named ∙ ap (picked p) told ∙ picked-told_of p 0 facts in
+-- the values at a place's number are the numbers of the facts there
+pub key_numbers : (places : List Place) (entries : List KeyedNumber) (facts : List Fact) → IsWhole places entries → told_by places entries ≡ told_of 0 facts → (key : ℕ) (p : Place) → slice_get places key ≡ Some p → AreNumbers (StandsAt p) facts (values_at entries key)
+key_numbers places entries facts whole told key p at =
+    let is : values_at entries key ≡ standing p 0 facts = values_at-told places whole.apart key p at entries whole.named ∙ ap (picked p) told ∙ picked-told_of p 0 facts in
     rw is (record {
       ascending = standing-ascends p 0 facts;
       exact = λ i. (
@@ -224,30 +224,30 @@ group_numbers places entries facts whole told group p at =
       );
     })
 
--- an entry of the place has its group
-picked_group : (p : Place) (places : List Place) (entries : List Entry) (n : ℕ) → Contains (picked p (told_by places entries)) n → (group : ℕ) × (slice_get places group ≡ Some p)
-picked_group p places [] n (k, l, e) = absurd (omega arith)
-picked_group p places (e ∷ entries) n there = by (slice_get places e.group) refl there (picked_group p places entries n)
+-- a place of which an entry tells has a number
+picked_key : (p : Place) (places : List Place) (entries : List KeyedNumber) (n : ℕ) → Contains (picked p (told_by places entries)) n → (key : ℕ) × (slice_get places key ≡ Some p)
+picked_key p places [] n (k, l, e) = absurd (omega arith)
+picked_key p places (e ∷ entries) n there = by (slice_get places e.key) refl there (picked_key p places entries n)
   where
     Found : Type 0
-    Found = (group : ℕ) × (slice_get places group ≡ Some p)
+    Found = (key : ℕ) × (slice_get places key ≡ Some p)
 
     rest : List ℕ
     rest = picked p (told_by places entries)
 
-    found : (q : Place) (b : Bool) → same p q ≡ b → slice_get places e.group ≡ Some q → Contains (if b then e.number ∷ rest else rest) n → (Contains rest n → Found) → Found
-    found q true is at there more = (e.group, at ∙ ap Some (sym (same_is p q is)))
+    found : (q : Place) (b : Bool) → same p q ≡ b → slice_get places e.key ≡ Some q → Contains (if b then e.value ∷ rest else rest) n → (Contains rest n → Found) → Found
+    found q true is at there more = (e.key, at ∙ ap Some (sym (same_is p q is)))
     found q false is at there more = more there
 
-    by : (o : Option Place) → slice_get places e.group ≡ o → Contains (if is_at p o then e.number ∷ rest else rest) n → (Contains rest n → Found) → Found
+    by : (o : Option Place) → slice_get places e.key ≡ o → Contains (if is_at p o then e.value ∷ rest else rest) n → (Contains rest n → Found) → Found
     by None at there more = more there
     by (Some q) at there more = found q (same p q) refl at there more
 
--- each place of a fact has a group
-pub all_told : (places : List Place) (entries : List Entry) (facts : List Fact) → told_by places entries ≡ told_of 0 facts → (i : ℕ) (f : Fact) (p : Place) → slice_get facts i ≡ Some f → StandsAt p f → (group : ℕ) × (slice_get places group ≡ Some p)
+-- each place of a fact has a number
+pub all_told : (places : List Place) (entries : List KeyedNumber) (facts : List Fact) → told_by places entries ≡ told_of 0 facts → (i : ℕ) (f : Fact) (p : Place) → slice_get facts i ≡ Some f → StandsAt p f → (key : ℕ) × (slice_get places key ≡ Some p)
 all_told places entries facts told i f p at here =
     let is : picked p (told_by places entries) ≡ standing p 0 facts = ap (picked p) told ∙ picked-told_of p 0 facts in
-    picked_group p places entries (0 + i) (rw is (standing-all p 0 facts i f here at))
+    picked_key p places entries (0 + i) (rw is (standing-all p 0 facts i f here at))
 
 -- one more fact is told
 pub gather_more : (facts : List Fact) (i : ℕ) (d : Fact) (old new : List (Option Place × ℕ)) → i < length facts → old ≡ told_of 0 (take i facts) → new ≡ old ++ map (λ p. (Some p, i)) (places_of (get_or facts i d)) → new ≡ told_of 0 (take (i + 1) facts)
@@ -255,16 +255,16 @@ gather_more facts i d old new lt before more =
     let size : 0 + length (take i facts) ≡ i = omega (arith, length-take i facts) in
     rw (take_more facts i d lt, told_of-push 0 (take i facts) (get_or facts i d), size, ← before) more
 
--- the lists of the groups are those of the places
-pub indexed : (places : List Place) (entries : List Entry) (facts : List Fact) (count : ℕ) (lists : List (List ℕ)) → AreDistinct facts → length facts < 2 ^ 31 → IsWhole places entries → told_by places entries ≡ told_of 0 facts → count ≡ length places → AreGroups entries count lists → IsIndexed facts places lists
-indexed places entries facts count lists distinct few whole told is groups = record {
+-- the lists by the numbers of the places are those of the places
+pub indexed : (places : List Place) (entries : List KeyedNumber) (facts : List Fact) (count : ℕ) (lists : List (List ℕ)) → AreDistinct facts → length facts < 2 ^ 31 → IsWhole places entries → told_by places entries ≡ told_of 0 facts → count ≡ length places → count < 2 ^ 32
+    → AreGrouped entries count lists → IsIndexed facts places lists
+indexed places entries facts count lists distinct few whole told is fits grouped = record {
   distinct = distinct;
   few = few;
-  same_length = groups.length ∙ is;
+  few_places = omega (arith, is, fits);
+  same_length = grouped.all ∙ is;
   complete = λ i f p at here. all_told places entries facts told i f p at here;
-  exact = λ group p numbers at list.
-      let within : group < count = omega (arith, slice_get_within places group p at, is) in
-      let same_list : Some (numbers_in group entries) ≡ Some numbers = sym (groups.each group within) ∙ list in
-      let equal : numbers_in group entries ≡ numbers = cc same_list in
-      subst (AreNumbers (StandsAt p) facts) equal (group_numbers places entries facts whole told group p at);
+  exact = λ key p at.
+      let within : key < count = omega (arith, slice_get_within places key p at, is) in
+      rw (grouped.exact key within) (key_numbers places entries facts whole told key p at);
 }

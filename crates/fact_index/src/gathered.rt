@@ -4,21 +4,20 @@ ghost use Rattle.std.specs.Prelude.{◌≡◌, ◌<◌, ◌≤◌, ◌+◌, ◌*
 ghost use Rattle.fact_index.specs.Gathered.{told, told_of, IsGathered};
 ghost use Rattle.fact_index.specs.Places.{places_of};
 
-use crate::groups::Entry;
 use crate::place::Place;
-use cq_terms::{Fact, NoMemory};
+use cq_terms::{Fact, KeyedNumber, NoMemory};
 use indexmap::IndexSet;
 use std::alloc::Global;
 
-/// The places in the order of their first appearance, and an entry for each fact and place, in the order of facts. The
-/// group of an entry is the number of its place.
+/// The places in the order of their first appearance, and an entry for each fact and place, in the order of facts. The key
+/// of an entry is the number of its place, and its value the number of the fact.
 #[derive(Debug, Drop)]
 pub(crate) struct Gathered {
     pub places: IndexSet<Place>,
-    pub entries: Vec<Entry>,
+    pub entries: Vec<KeyedNumber>,
 }
 
-/// The places of the facts.
+/// The places of the facts. `NoMemory` comes too where the number of a place doesn't fit in 32 bits.
 pub(crate) fn gather(alloc: Global, facts: &[Fact]) -> Result<Gathered, NoMemory>
     requires few { length facts.now < 2 ^ 31 }
 
@@ -57,15 +56,18 @@ impl Gathered {
         }
     }
 
-    /// Appends an entry.
+    /// Appends an entry, where the number of its place fits in 32 bits.
     fn put(&mut self, place: Place, number: u32) -> Result<(), NoMemory>
         requires whole { IsGathered self.old }
 
         ensures whole { OnOk result (IsGathered self.new) }
         ensures exact { OnOk result (told self.new ≡ told self.old ++ (Some place, number) ∷ []) }
     {
-        let (group, _) = self.places.insert_full(place)?;
-        self.entries.push(Entry { group, number })?;
+        let (at, _) = self.places.insert_full(place)?;
+        let Ok(key) = u32::try_from(at) else {
+            return Err(NoMemory);
+        };
+        self.entries.push(KeyedNumber { key, value: number })?;
         Ok(())
     }
 }

@@ -6,9 +6,8 @@ ghost use Rattle.fact_index.specs.Numbers.{AreNumbers, HasPred, HasFirst, HasSec
 ghost use Rattle.fact_index.specs.Places.{StandsAt};
 
 use crate::gathered::{Gathered, gather};
-use crate::groups::Groups;
 use crate::place::Place;
-use cq_terms::{Fact, Kind, NoMemory};
+use cq_terms::{Fact, FlatLists, Kind, NoMemory};
 use indexmap::IndexSet;
 use std::alloc::Global;
 use std::marker::Model;
@@ -19,7 +18,7 @@ use std::marker::Model;
 pub struct Index {
     facts: Vec<Fact>,
     places: IndexSet<Place>,
-    groups: Groups,
+    numbers: FlatLists,
 }
 
 impl Model for Index {
@@ -31,12 +30,13 @@ impl Model for Index {
 
     ghost view = { λ a. a.facts.items };
 
-    ghost invariant = { λ a. IsIndexed a.facts.items a.places.keys a.groups };
+    ghost invariant = { λ a. IsIndexed a.facts.items a.places.keys a.numbers };
 }
 
 impl Index {
     /// The index of a table, whose facts are distinct. It goes over the facts twice, and keeps two or three numbers for each
-    /// fact and each place once. `NoMemory` may come at any time.
+    /// fact and each place once. `NoMemory` may come at any time. It comes too where there are 2^32 places or more, since their
+    /// numbers have 32 bits; so many take more than 50 GB by themselves.
     pub fn build(alloc: Global, facts: &[Fact]) -> Result<Index, NoMemory>
         requires distinct { AreDistinct facts.now }
         requires few { length facts.now < 2 ^ 31 }
@@ -44,13 +44,15 @@ impl Index {
         ensures exact { IfOk result (λ index. index ≡ facts.now) }
     {
         let Gathered { places, entries } = gather(alloc, facts)?;
-        let count = places.len();
-        let groups = Groups::new(alloc, &entries, count)?;
+        let Ok(count) = u32::try_from(places.len()) else {
+            return Err(NoMemory);
+        };
+        let numbers = FlatLists::grouped(alloc, count, &entries)?;
         let facts = Vec::from_slice(alloc, facts)?;
         Ok(Index {
             facts,
             places,
-            groups,
+            numbers,
         })
     }
 
@@ -112,7 +114,7 @@ impl Index {
         ensures lent { AreNumbers (StandsAt place) self.now result.now }
     {
         match self.places.get_index_of(&place) {
-            Some(group) => self.groups.list(group),
+            Some(at) => self.numbers.list(at as u32),
             None => &[],
         }
     }

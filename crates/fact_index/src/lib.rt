@@ -2,7 +2,6 @@
 #![tactic(auto)]
 
 mod gathered;
-mod groups;
 mod index;
 mod place;
 #[cfg(test)]

@@ -160,12 +160,12 @@ tells law axioms q members is = λ facts tuple. (to facts tuple, from facts tupl
 -- one more result than there is room for
 pub more_than : (axioms : List Axiom) (limit from : ℕ) (q : Query) (p : Member) (members : List Member) (s : Move) (r : Query) → AreDerived axioms q members → IsDerivation members
     → slice_get members from ≡ Some p → IsMove axioms p.query s r → All (λ m. m.query ≢ r) members → limit ≤ length members → HasMoreThan axioms q limit
-more_than axioms limit from q p members s r derived d at is new full = (
-  queries_of members ++ r ∷ [],
-  rw (length_push (queries_of members) r, length-map members (λ (m : Member). m.query)) (omega arith),
-  all_pairs_push (λ a b. a ≢ b) (queries_of members) r distinct fresh,
-  All-push (IsInClosure axioms q) (queries_of members) r inside last,
-)
+more_than axioms limit from q p members s r derived d at is new full = record {
+  items = queries_of members ++ r ∷ [];
+  each = All-push (IsInClosure axioms q) (queries_of members) r inside last;
+  apart = all_pairs_push (λ a b. a ≢ b) (queries_of members) r distinct fresh;
+  longer = rw (length_push (queries_of members) r, length-map members (λ (m : Member). m.query)) (omega arith);
+}
   where
     lengths : length (queries_of members) ≡ length members
     lengths = length-map members (λ (m : Member). m.query)
@@ -196,7 +196,7 @@ more_than axioms limit from q p members s r derived d at is new full = (
 
 -- no room for the first member
 pub none_fits : (axioms : List Axiom) (q : Query) → HasMoreThan axioms q 0
-none_fits axioms q = (normal q ∷ [], omega arith, λ i j d less lt. absurd (omega arith), one)
+none_fits axioms q = record { items = normal q ∷ []; each = one; apart = λ i j d less lt. absurd (omega arith); longer = omega arith }
   where
     one : (k : ℕ) (e : Query) → k < 1 → IsInClosure axioms q (get_or (normal q ∷ []) k e)
     one zero e lt = (0, refl)

@@ -1,7 +1,8 @@
 -- Breadth-first search of a closure: its order, a closure with too many members, and what a closure tells.
-use Rattle.std.specs.Prelude.{◌≡◌, ◌≢◌, ℕ, ◌<◌, ◌⊎◌, ◌↔◌, List, length, slice_get, Some, All, AllPairs, Contains}
+use Rattle.std.specs.Prelude.{◌≡◌, ◌≢◌, ℕ, ◌<◌, ◌⊎◌, ◌↔◌, List, slice_get, Some, Contains}
 use Rattle.cq_terms.specs.declared.axioms.Axiom.{Axiom}
 use Rattle.cq_terms.specs.declared.facts.Fact.{Fact}
+use Rattle.cq_terms.specs.Lists.{HasMore}
 use Rattle.cq_terms.specs.Query.{Query}
 use Rattle.cq_meaning.specs.Entailment.{Entails, Match}
 use Rattle.cq_meaning.specs.Rewriting.{IsInClosure}
@@ -22,7 +23,7 @@ pub record IsBreadthFirst (axioms : List Axiom) (members : List Member) : Type 0
 
 -- the closure of the query has more members than this
 abbrev pub HasMoreThan : List Axiom → Query → ℕ → Type 0
-HasMoreThan axioms q limit = (queries : List Query) × (limit < length queries) × AllPairs (λ p r. p ≢ r) queries × All (IsInClosure axioms q) queries
+HasMoreThan axioms q limit = HasMore (λ p r. p ≢ r) (IsInClosure axioms q) limit
 
 -- any list of facts entails a tuple exactly where some member matches in it with that tuple
 abbrev pub MatchesTell : List Axiom → Query → List Member → Type 0

@@ -11,52 +11,52 @@ ghost use Rattle.perfect_ref.specs.BreadthFirst.{IsBreadthFirst, HasMoreThan, Ma
 ghost use Rattle.perfect_ref.specs.Search.{codes_of, IsNoted, AreKept, AreFound, AreBehind, IsTurn};
 
 use crate::code::code_of;
-use crate::known::Known;
+use crate::member_codes::MemberCodes;
 use crate::refusal::CloseRefusal;
 use cq_meaning::closure_is_exact;
 use cq_steps::{Closure, Member, Move, closing_list_is_closure, normal, successors};
 use cq_terms::{Axiom, Cq};
 use std::alloc::Global;
 
-/// The members that were found so far, and their codes.
+/// A closure as far as it was found: the members so far, and their codes.
 #[derive(Drop)]
-struct Found {
+struct PartialClosure {
     closure: Closure,
-    known: Known,
+    codes: MemberCodes,
 }
 
 /// The first member alone.
-fn start(alloc: Global, query: Cq) -> Result<Found, CloseRefusal>
-    ensures tied { IfOk result (λ found. found.known ≡ codes_of found.closure) }
+fn start(alloc: Global, query: Cq) -> Result<PartialClosure, CloseRefusal>
+    ensures tied { IfOk result (λ found. found.codes ≡ codes_of found.closure) }
     ensures exact { IfOk result (λ found. found.closure ≡ record { query = query; step = None } ∷ []) }
     ensures refused { result ≢ Err CloseRefusal.TooManyCqs }
 {
     let code = code_of(alloc, &query)?;
-    let mut known = Known::new(alloc);
-    known.add(code)?;
+    let mut codes = MemberCodes::new(alloc);
+    codes.add(code)?;
     let closure = Closure::first(alloc, query)?;
-    Ok(Found { closure, known })
+    Ok(PartialClosure { closure, codes })
 }
 
 /// Appends the query that a step made, where it is new.
 fn note(
     alloc: Global,
-    found: &mut Found,
+    found: &mut PartialClosure,
     query: Cq,
     step: (u32, Move),
     limit: u32,
 ) -> Result<(), CloseRefusal>
-    requires tied { found.old.known ≡ codes_of found.old.closure }
+    requires tied { found.old.codes ≡ codes_of found.old.closure }
     requires earlier { step.0 < length found.old.closure }
 
-    ensures tied { OnOk result (found.new.known ≡ codes_of found.new.closure) }
+    ensures tied { OnOk result (found.new.codes ≡ codes_of found.new.closure) }
     ensures exact { OnOk result
         (IsNoted limit found.old.closure (record { query = query; step = Some step }) found.new.closure) }
     ensures refused { result ≡ Err CloseRefusal.TooManyCqs
         → All (λ m. m.query ≢ query) found.old.closure × (limit ≤ length found.old.closure) }
 {
     let code = code_of(alloc, &query)?;
-    if found.known.holds(&code) {
+    if found.codes.holds(&code) {
         return Ok(());
     }
     if found.closure.members().len() >= limit as usize {
@@ -66,22 +66,22 @@ fn note(
         query,
         step: Some(step),
     })?;
-    found.known.add(code)?;
+    found.codes.add(code)?;
     Ok(())
 }
 
 /// Appends the results of the moves on the member at place `from` that are new.
 fn note_all(
     alloc: Global,
-    found: &mut Found,
+    found: &mut PartialClosure,
     moves: Vec<(Move, Cq)>,
     from: u32,
     limit: u32,
 ) -> Result<(), CloseRefusal>
-    requires tied { found.old.known ≡ codes_of found.old.closure }
+    requires tied { found.old.codes ≡ codes_of found.old.closure }
     requires place { from < length found.old.closure }
 
-    ensures tied { OnOk result (found.new.known ≡ codes_of found.new.closure) }
+    ensures tied { OnOk result (found.new.codes ≡ codes_of found.new.closure) }
     ensures kept { OnOk result (AreKept found.old.closure found.new.closure) }
     ensures found { (axioms : List Axiom) (p : Member) → IsTurn axioms limit from p moves.items found.old.closure
         → OnOk result (AreFound axioms limit (from + 1) found.new.closure) }
@@ -99,18 +99,18 @@ fn note_all(
 /// The turn of the member at place `from`: each move on it is tried.
 fn handle(
     alloc: Global,
-    found: &mut Found,
+    found: &mut PartialClosure,
     axioms: &[Axiom],
     from: u32,
     limit: u32,
 ) -> Result<(), CloseRefusal>
     requires axioms_fit { length axioms.now < 2 ^ 31 }
-    requires tied { found.old.known ≡ codes_of found.old.closure }
+    requires tied { found.old.codes ≡ codes_of found.old.closure }
     requires place { from < length found.old.closure }
     requires found { AreFound axioms.now limit from found.old.closure }
     requires behind { AreBehind from found.old.closure }
 
-    ensures tied { OnOk result (found.new.known ≡ codes_of found.new.closure) }
+    ensures tied { OnOk result (found.new.codes ≡ codes_of found.new.closure) }
     ensures kept { OnOk result (AreKept found.old.closure found.new.closure) }
     ensures found { OnOk result (AreFound axioms.now limit (from + 1) found.new.closure) }
     ensures behind { OnOk result (AreBehind (from + 1) found.new.closure) }
@@ -125,12 +125,12 @@ fn handle(
 /// The turns of all members, one after the other.
 fn handle_all(
     alloc: Global,
-    found: &mut Found,
+    found: &mut PartialClosure,
     axioms: &[Axiom],
     limit: u32,
 ) -> Result<(), CloseRefusal>
     requires axioms_fit { length axioms.now < 2 ^ 31 }
-    requires tied { found.old.known ≡ codes_of found.old.closure }
+    requires tied { found.old.codes ≡ codes_of found.old.closure }
     requires found { AreFound axioms.now limit 0 found.old.closure }
     requires behind { AreBehind 0 found.old.closure }
 
@@ -174,9 +174,9 @@ pub fn close(
     handle_all(alloc, &mut found, axioms, limit)?;
     closing_list_is_closure();
     closure_is_exact();
-    let Found {
+    let PartialClosure {
         closure,
-        known: _known,
+        codes: _codes,
     } = found;
     let _ = closure.members();
     Ok(closure)

@@ -3,7 +3,7 @@
 
 mod breadth_first;
 mod code;
-mod known;
+mod member_codes;
 mod refusal;
 #[cfg(test)]
 mod tests;

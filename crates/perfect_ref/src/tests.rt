@@ -246,3 +246,34 @@ fn the_closure_of_a_disjointness_is_worked_by_hand(rt: HostRuntime) -> Result<()
     has_members(&rt, &closure, &row);
     Ok(())
 }
+
+/// The heads of the members are these.
+fn has_heads(rt: &impl Abort, closure: &Closure, heads: &[&[Term]]) {
+    assert_eq!(rt; closure.members().len(), heads.len());
+    for (member, head) in closure.members().iter().zip(heads) {
+        assert_eq!(rt; member.query.head(), *head);
+    }
+}
+
+/// Under A < some P, from ?x ?z <- P(?x, ?y), P(?z, ?y). The variable ?y stands twice, and ?x and ?z are in the head: all are bound,
+/// so the axiom applies to neither atom. The most general unifier of the atoms makes ?z to ?x, in the head too: reduce gives
+/// ?x ?x <- P(?x, ?y), where ?y is unbound now, so P(?x, _). There the axiom applies: ?x ?x <- A(?x). No axiom has A on its right.
+#[test]
+fn a_reduce_step_makes_two_variables_of_the_head_one(rt: HostRuntime) -> Result<(), Fail> {
+    let alloc = rt.alloc();
+    let row = Row {
+        shows: "two variables of the head become one",
+        head: &[X, Z],
+        body: &[link(X, Y), link(Z, Y)],
+        axioms: &[below(Basic::Concept(0), some(false))],
+        members: 3,
+        bodies: &[link(X, Y), link(Z, Y), link(X, ANY), name(0, X)],
+        steps: &[reduce(0), axiom(1, 0, 0)],
+    };
+    holds(&rt, alloc, &row)?;
+    let given = query(&rt, alloc, row.head, row.body)?;
+    assert!(rt; given.body().len() < 12);
+    let closure = close(alloc, &given, row.axioms, row.members)?;
+    has_heads(&rt, &closure, &[&[X, Z], &[X, X], &[X, X]]);
+    Ok(())
+}

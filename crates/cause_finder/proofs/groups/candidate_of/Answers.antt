@@ -32,7 +32,7 @@ loop-support-preserved c =
       picked_next (λ s. IsFree c.args.conflicts.now.clashes s.image × HasNoPart c.args.group.now s.image) c.args.group.now picked c.loop-support.support-index x c.loop-support-test.true c.support-item.is are c.requires.ordered (
           subst (λ (xs : List ℕ). IsFree c.args.conflicts.now.clashes xs × HasNoPart c.args.group.now xs) c.as_slice-image.ensures.lent (c.is_cause.ensures.exact.0 c.if-not-is_cause.false)
           ),
-      mapped_next (λ s. s.image) picked x c.loop-support.causes c.push.new.self c.in_ok-copy_of.field-0 causes c.in_ok-push.ensures.exact (c.in_ok-copy_of.ensures.exact ∙ c.as_slice-image.ensures.lent),
+      mapped_next (λ s. s.image) picked x c.loop-support.causes c.push.new.self c.in_ok-from_slice.field-0 causes c.in_ok-push.ensures.exact (c.in_ok-from_slice.ensures.exact ∙ c.as_slice-image.ensures.lent),
       mapped_next (λ s. s.member) picked x c.loop-support.members c.push-in-loop-support.new.self x.member members c.in_ok-push-2.ensures.exact refl,
     )
 
