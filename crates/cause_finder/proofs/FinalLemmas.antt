@@ -1,5 +1,6 @@
 -- The supports of a query and the candidates that are picked from them are the answers.
-use Rattle.std.proofs.Common.{◌≡◌, ℕ, zero, suc, ◌<◌, ◌≤◌, List, [], ◌∷◌, length, get_or, map, All, AllPairs, Contains, inl, inr, slice_get, Some, refl, sym, ap, ◌∙◌, subst, arith}
+use Rattle.std.proofs.Common.{◌≡◌, ℕ, zero, suc, ◌<◌, ◌≤◌, List, [], ◌∷◌, length, get_or, map, All, AllPairs, Contains, inl, inr, slice_get, Some, refl, sym}
+use Rattle.std.proofs.Common.{ap, ◌∙◌, subst, arith}
 use Rattle.std.specs.List.{AllZip}
 use Rattle.std.specs.Ordering.{nat_cmp}
 use Rattle.std.specs.declared.cmp.Ordering.TheVariants.{Less}
@@ -45,7 +46,12 @@ map_there f xs x (k, l, e) = (k, omega (arith, l, length-map xs f), get_or-map f
 module _ (axioms : List Axiom) (facts : List Fact) (q : Query) (members : List Member) (closure : IsClosure axioms q (queries_of members)) where
   -- a member that matches makes a support
   pub match_supports : (tuple image : List ℕ) (i : ℕ) → MatchesAt facts members tuple image i → IsSupport (kb_of axioms facts) q tuple image
-  match_supports tuple image i (m, at, is) = (m.query, (closure m.query).0 (map_there (λ (x : Member). x.query) members m (Contains-slice_get members i m at)), is)
+  match_supports tuple image i (m, at, is) = (
+    m.query,
+    (closure m.query).0
+        (map_there (λ (x : Member). x.query) members m (Contains-slice_get members i m at)),
+    is,
+  )
 
   pub more_supports : (limit : ℕ) → HasMorePairs facts members limit → HasMoreSupports (kb_of axioms facts) q limit
   more_supports limit more = record {
@@ -66,7 +72,9 @@ module _ (axioms : List Axiom) (facts : List Fact) (graph : ConflictGraph) (conf
   free_consistent : IsFree graph.clashes image → AreConsistent (kb_of axioms facts) (Contains image)
   free_consistent free = (consistent_by_lists (kb_of axioms facts) (own_facts graph.clashes) (couples graph.clashes) conflicts.exact (Contains image)).1 (
     All-of (λ i. ¬ Contains image i) (own_facts graph.clashes) (λ i m s. (All-contains (IsFreeAmong graph.clashes image) image i free s).0 m),
-    All-of (λ p. ¬ (Contains image p.0 × Contains image p.1)) (couples graph.clashes) (λ p m w. All-contains (λ j. ¬ AreInConflict graph.clashes p.0 j) image p.1 (All-contains (IsFreeAmong graph.clashes image) image p.0 free w.0).1 w.1 (inl m)),
+    All-of (λ p. ¬ (Contains image p.0 × Contains image p.1)) (couples graph.clashes)
+        (λ p m w. All-contains (λ j. ¬ AreInConflict graph.clashes p.0 j) image p.1 (All-contains (IsFreeAmong graph.clashes image) image p.0 free w.0).1 w.1
+        (inl m)),
   )
 
   consistent_free : AreConsistent (kb_of axioms facts) (Contains image) → IsFree graph.clashes image
@@ -80,20 +88,24 @@ module _ (axioms : List Axiom) (facts : List Fact) (graph : ConflictGraph) (conf
         ]),
       ))
 
-module _ (axioms : List Axiom) (facts : List Fact) (q : Query) (members : List Member) (closure : IsClosure axioms q (queries_of members)) (supports : List Support) (are : AreSupports facts members supports) where
+module _ (axioms : List Axiom) (facts : List Fact) (q : Query) (members : List Member) (closure : IsClosure axioms q (queries_of members))
+    (supports : List Support) (are : AreSupports facts members supports) where
   to_support : (s : Support) → Contains supports s → IsSupport (kb_of axioms facts) q s.tuple s.image
   to_support s c = match_supports axioms facts q members closure s.tuple s.image s.member (are.gathered.each s c).1.matches
 
-  from_support : (tuple image : List ℕ) → IsSupport (kb_of axioms facts) q tuple image → (s : Support) × Contains supports s × (s.tuple ≡ tuple) × (s.image ≡ image)
+  from_support : (tuple image : List ℕ) → IsSupport (kb_of axioms facts) q tuple image → (s : Support) × Contains supports s × (s.tuple ≡ tuple)
+      × (s.image ≡ image)
   from_support tuple image (member, inside, has) =
       let w = map_back (λ (m : Member). m.query) members member ((closure member).1 inside) in
-      let found = are.gathered.complete w.0 (record { tuple = tuple; image = image }) (slice_get_within members w.0 w.1 w.2) (w.1, w.2, subst (λ (p : Query). HasImage facts p tuple image) (sym w.3) has) in
+      let found = are.gathered.complete w.0 (record { tuple = tuple; image = image }) (slice_get_within members w.0 w.1 w.2)
+      (w.1, w.2, subst (λ (p : Query). HasImage facts p tuple image) (sym w.3) has) in
       (found.0, found.1, ap (λ (h : Hit). h.tuple) found.2, ap (λ (h : Hit). h.image) found.2)
 
   module _ (clashes : List Clash) (candidates : List Candidate) (grouped : AreGrouped clashes supports candidates) where
     pub are_candidates : AreCandidates (kb_of axioms facts) q (map (λ c. c.tuple) candidates)
     are_candidates = record {
-      entailed = All-map (FactsEntail (kb_of axioms facts) Every q) (λ (c : Candidate). c.tuple) candidates (All-of (λ (c : Candidate). FactsEntail (kb_of axioms facts) Every q c.tuple) candidates (λ c k.
+      entailed = All-map (FactsEntail (kb_of axioms facts) Every q) (λ (c : Candidate). c.tuple) candidates
+          (All-of (λ (c : Candidate). FactsEntail (kb_of axioms facts) Every q c.tuple) candidates (λ c k.
           let w = grouped.each c k in
           subst (FactsEntail (kb_of axioms facts) Every q) w.2 ((by_any_support (kb_of axioms facts) q w.0.tuple).1 (w.0.image, to_support w.0 w.1))));
       complete = λ tuple e.
@@ -114,7 +126,8 @@ module _ (axioms : List Axiom) (facts : List Fact) (q : Query) (members : List M
 
     -- ---- the causes of one candidate
 
-    module _ (graph : ConflictGraph) (distinct : AreDistinct facts) (conflicts : AreConflictsOf (kb_of axioms facts) graph) (c : Candidate) (picked : List Support) (exact : ArePicked graph.clashes supports c.tuple picked) where
+    module _ (graph : ConflictGraph) (distinct : AreDistinct facts) (conflicts : AreConflictsOf (kb_of axioms facts) graph) (c : Candidate)
+        (picked : List Support) (exact : ArePicked graph.clashes supports c.tuple picked) where
       picked_is_cause : (s : Support) → Contains picked s → IsAscending s.image × IsCause (kb_of axioms facts) q c.tuple (Contains s.image)
       picked_is_cause s k =
           let w = exact.each s k in
@@ -130,21 +143,25 @@ module _ (axioms : List Axiom) (facts : List Fact) (q : Query) (members : List M
             ),
           )
 
-      cause_is_picked : (numbers : List ℕ) → IsAscending numbers → IsCause (kb_of axioms facts) q c.tuple (Contains numbers) → Contains (map (λ s. s.image) picked) numbers
+      cause_is_picked : (numbers : List ℕ) → IsAscending numbers → IsCause (kb_of axioms facts) q c.tuple (Contains numbers)
+          → Contains (map (λ s. s.image) picked) numbers
       cause_is_picked numbers ascending cause =
           let w = (cause_is_support (kb_of axioms facts) q c.tuple distinct numbers ascending).0 cause in
           let s = from_support c.tuple numbers w.0 in
           let in_picked = exact.complete s.0 (record {
             there = s.1;
             same = s.2;
-            free = consistent_free axioms facts graph conflicts s.0.image (subst (λ (xs : List ℕ). AreConsistent (kb_of axioms facts) (Contains xs)) (sym s.3) w.1);
-            least = λ r d e part. w.2 r.image (subst (λ (t : List ℕ). IsSupport (kb_of axioms facts) q t r.image) e (to_support r d)) (subst (λ (xs : List ℕ). All (Contains xs) r.image) s.3 part) ∙ sym s.3;
+            free = consistent_free axioms facts graph conflicts s.0.image
+                (subst (λ (xs : List ℕ). AreConsistent (kb_of axioms facts) (Contains xs)) (sym s.3) w.1);
+            least = λ r d e part. w.2 r.image (subst (λ (t : List ℕ). IsSupport (kb_of axioms facts) q t r.image) e (to_support r d))
+                (subst (λ (xs : List ℕ). All (Contains xs) r.image) s.3 part) ∙ sym s.3;
           }) in
           subst (Contains (map (λ (x : Support). x.image) picked)) s.3 (map_there (λ (x : Support). x.image) picked s.0 in_picked)
 
       pub are_causes : AreCauses (kb_of axioms facts) q c.tuple (map (λ s. s.image) picked)
       are_causes = record {
-        each = All-map (λ (xs : List ℕ). IsAscending xs × IsCause (kb_of axioms facts) q c.tuple (Contains xs)) (λ (s : Support). s.image) picked (All-of (λ (s : Support). IsAscending s.image × IsCause (kb_of axioms facts) q c.tuple (Contains s.image)) picked picked_is_cause);
+        each = All-map (λ (xs : List ℕ). IsAscending xs × IsCause (kb_of axioms facts) q c.tuple (Contains xs)) (λ (s : Support). s.image) picked
+            (All-of (λ (s : Support). IsAscending s.image × IsCause (kb_of axioms facts) q c.tuple (Contains s.image)) picked picked_is_cause);
         complete = cause_is_picked;
         ascending = ascend;
       }
@@ -159,11 +176,14 @@ module _ (axioms : List Axiom) (facts : List Fact) (q : Query) (members : List M
               let second = (exact.each (get_or picked j e) (Contains-get_or picked j e inside)).same in
               rw (left, right) (images_in_order (get_or picked i e) (get_or picked j e) (first ∙ sym second) (exact.ascending i j e lt inside))
 
-      pub least_members : (xs : List Support) → ((s : Support) → Contains xs s → Contains picked s) → AllZip (IsLeastMember facts members c.tuple) (map (λ s. s.image) xs) (map (λ s. s.member) xs)
+      pub least_members : (xs : List Support) → ((s : Support) → Contains xs s → Contains picked s)
+          → AllZip (IsLeastMember facts members c.tuple) (map (λ s. s.image) xs) (map (λ s. s.member) xs)
       least_members [] inside = tt
       least_members (x ∷ xs) inside =
-          let w = exact.each x (inside x (Contains-head x xs)) in
-          (subst (λ (t : List ℕ). IsLeastMember facts members t x.image x.member) w.same (are.gathered.each x w.there).1, least_members xs (λ s k. inside s (Contains-later x xs s k)))
+          let w = exact.each x (inside x (Contains-head x xs)) in (
+            subst (λ (t : List ℕ). IsLeastMember facts members t x.image x.member) w.same (are.gathered.each x w.there).1,
+            least_members xs (λ s k. inside s (Contains-later x xs s k)),
+          )
 
 -- ---- all of it
 
@@ -178,7 +198,8 @@ module _ (facts : List Fact) (members : List Member) (supports : List Support) (
   pub images_ascend : All (λ s. IsAscending s.image) supports
   images_ascend = All-of (λ (s : Support). IsAscending s.image) supports (λ s c. (are.gathered.each s c).1.matches.2.ascending)
 
-module _ (axioms : List Axiom) (facts : List Fact) (q : Query) (members : List Member) (closure : IsClosure axioms q (queries_of members)) (supports : List Support) (are : AreSupports facts members supports) where
+module _ (axioms : List Axiom) (facts : List Fact) (q : Query) (members : List Member) (closure : IsClosure axioms q (queries_of members))
+    (supports : List Support) (are : AreSupports facts members supports) where
   -- no more supports than are listed
   pub no_more_supports : (limit : ℕ) → length supports ≤ limit → HasMoreSupports (kb_of axioms facts) q limit → ⊥
   no_more_supports limit few more =
@@ -187,11 +208,13 @@ module _ (axioms : List Axiom) (facts : List Fact) (q : Query) (members : List M
     where
       there : (h : Hit) → Contains more.items h → Contains (map pair_of supports) h
       there h c =
-          let s = from_support axioms facts q members closure supports are h.tuple h.image (All-contains (λ (x : Hit). IsSupport (kb_of axioms facts) q x.tuple x.image) more.items h more.each c) in
+          let s = from_support axioms facts q members closure supports are h.tuple h.image
+          (All-contains (λ (x : Hit). IsSupport (kb_of axioms facts) q x.tuple x.image) more.items h more.each c) in
           let same : pair_of s.0 ≡ h = λ i. record { tuple = s.2 i; image = s.3 i } in
           subst (Contains (map pair_of supports)) same (map_there pair_of supports s.0 s.1)
 
-  pub are_answers : (graph : ConflictGraph) (candidates : List Candidate) → AreDistinct facts → AreConflictsOf (kb_of axioms facts) graph → AreGrouped graph.clashes supports candidates → AreAnswers axioms facts q members candidates
+  pub are_answers : (graph : ConflictGraph) (candidates : List Candidate) → AreDistinct facts → AreConflictsOf (kb_of axioms facts) graph
+      → AreGrouped graph.clashes supports candidates → AreAnswers axioms facts q members candidates
   are_answers graph candidates distinct conflicts grouped = record {
     candidates = are_candidates axioms facts q members closure supports are graph.clashes candidates grouped;
     causes = All-of (λ (c : Candidate). AreCauses (kb_of axioms facts) q c.tuple c.causes) candidates (λ c k. causes_of c (grouped.picked c k));
@@ -199,10 +222,12 @@ module _ (axioms : List Axiom) (facts : List Fact) (q : Query) (members : List M
   }
     where
       causes_of : (c : Candidate) → IsPickedFrom graph.clashes supports c → AreCauses (kb_of axioms facts) q c.tuple c.causes
-      causes_of c (picked, exact, causes, places) = subst (AreCauses (kb_of axioms facts) q c.tuple) (sym causes) (are_causes axioms facts q members closure supports are graph.clashes candidates grouped graph distinct conflicts c picked exact)
+      causes_of c (picked, exact, causes, places) = subst (AreCauses (kb_of axioms facts) q c.tuple) (sym causes)
+          (are_causes axioms facts q members closure supports are graph.clashes candidates grouped graph distinct conflicts c picked exact)
 
       least_of : (c : Candidate) → IsPickedFrom graph.clashes supports c → HasLeastMembers facts members c
       least_of c (picked, exact, causes, places) =
           subst (λ (xs : List (List ℕ)). AllZip (IsLeastMember facts members c.tuple) xs c.members) (sym causes)
           (subst (λ (ys : List ℕ). AllZip (IsLeastMember facts members c.tuple) (map (λ (s : Support). s.image) picked) ys) (sym places)
-          (least_members axioms facts q members closure supports are graph.clashes candidates grouped graph distinct conflicts c picked exact picked (λ s k. k)))
+          (least_members axioms facts q members closure supports are graph.clashes candidates grouped graph distinct conflicts c picked exact picked
+          (λ s k. k)))

@@ -1,10 +1,12 @@
 -- Facts on all elements that were passed.
-use Rattle.std.proofs.Common.{◌≡◌, ℕ, ◌+◌, ◌<◌, ◌≤◌, List, length, get_or, All, inl, inr, ◌↔◌, Bool, true, false, IsTrue, [], ◌∷◌, zero, suc, slice_get, Some, ap, arith, refl, sym, subst}
+use Rattle.std.proofs.Common.{◌≡◌, ℕ, ◌+◌, ◌<◌, ◌≤◌, List, length, get_or, All, inl, inr, ◌↔◌, Bool, true, false, IsTrue, [], ◌∷◌, zero, suc, slice_get, Some}
+use Rattle.std.proofs.Common.{ap, arith, refl, sym, subst}
 use Rattle.std.proofs.lemmas.Bool.{cases_eq}
 use Rattle.std.proofs.lemmas.List.{get_or_default}
 
 -- what holds of all elements before a place, and of the one there, holds of all before the next place
-pub step : {X : Type 0} (P : X → Type 0) (xs : List X) (n : ℕ) (e : X) → n < length xs → ((k : ℕ) (d : X) → k < n → P (get_or xs k d)) → P (get_or xs n e) → (k : ℕ) (d : X) → k < n + 1 → P (get_or xs k d)
+pub step : {X : Type 0} (P : X → Type 0) (xs : List X) (n : ℕ) (e : X) → n < length xs → ((k : ℕ) (d : X) → k < n → P (get_or xs k d)) → P (get_or xs n e)
+    → (k : ℕ) (d : X) → k < n + 1 → P (get_or xs k d)
 step P xs n e within below here k d l = elim (cases_eq k n) [
   | inl is ↦ subst (λ (i : ℕ). P (get_or xs i d)) (sym is) (subst P (get_or_default xs n e d within) here)
   | inr ne ↦ below k d (omega arith)

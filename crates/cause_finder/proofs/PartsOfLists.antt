@@ -53,20 +53,23 @@ first_below x xs a y (k, l, e) = subst (λ (z : ℕ). x < z) e (a 0 (suc k) y (o
 
 -- behind the first number of both, the rest is within the rest
 pub within_rest : (f : ℕ) (more xs : List ℕ) → IsAscending (f ∷ xs) → All (Contains (f ∷ more)) (f ∷ xs) → All (Contains more) xs
-within_rest f more xs a all = All-of (Contains more) xs (λ y c. elim (Contains-cases f more y (All-contains (Contains (f ∷ more)) (f ∷ xs) y all (Contains-later f xs y c))) [
-  | inl e ↦ absurd (let l = first_below f xs a y c in omega (arith, l, e))
-  | inr d ↦ d
-])
+within_rest f more xs a all = All-of (Contains more) xs (λ y c.
+    elim (Contains-cases f more y (All-contains (Contains (f ∷ more)) (f ∷ xs) y all (Contains-later f xs y c))) [
+      | inl e ↦ absurd (let l = first_below f xs a y c in omega (arith, l, e))
+      | inr d ↦ d
+    ])
 
 -- what begins above the first number is within the rest
-pub within_above : (f : ℕ) (more : List ℕ) (x : ℕ) (xs : List ℕ) → f < x → IsAscending (x ∷ xs) → All (Contains (f ∷ more)) (x ∷ xs) → All (Contains more) (x ∷ xs)
-within_above f more x xs less a all = All-of (Contains more) (x ∷ xs) (λ y c. elim (Contains-cases f more y (All-contains (Contains (f ∷ more)) (x ∷ xs) y all c)) [
-  | inr d ↦ d
-  | inl e ↦ absurd (elim (Contains-cases x xs y c) [
-    | inl same ↦ omega (arith, e, same)
-    | inr later ↦ let l = first_below x xs a y later in omega (arith, l, e)
-  ])
-])
+pub within_above : (f : ℕ) (more : List ℕ) (x : ℕ) (xs : List ℕ) → f < x → IsAscending (x ∷ xs) → All (Contains (f ∷ more)) (x ∷ xs)
+    → All (Contains more) (x ∷ xs)
+within_above f more x xs less a all = All-of (Contains more) (x ∷ xs)
+    (λ y c. elim (Contains-cases f more y (All-contains (Contains (f ∷ more)) (x ∷ xs) y all c)) [
+      | inr d ↦ d
+      | inl e ↦ absurd (elim (Contains-cases x xs y c) [
+        | inl same ↦ omega (arith, e, same)
+        | inr later ↦ let l = first_below x xs a y later in omega (arith, l, e)
+      ])
+    ])
 
 -- what begins below the first number isn't within
 pub not_within : (f : ℕ) (more : List ℕ) (x : ℕ) (xs : List ℕ) → x < f → IsAscending (f ∷ more) → All (Contains (f ∷ more)) (x ∷ xs) → ⊥
@@ -89,9 +92,11 @@ pub part_shorter : (ys xs : List ℕ) → IsAscending ys → IsAscending xs → 
 part_shorter [] [] b a all = inl refl
 part_shorter [] (x ∷ xs) b a all = absurd (Contains-nil x (All-contains (Contains []) (x ∷ xs) x all (Contains-head x xs)))
 part_shorter (y ∷ ys) [] b a all = inr (omega arith)
-part_shorter (y ∷ ys) (x ∷ xs) b a all = by (part_shorter ys xs (rest_ascends y ys b) (rest_ascends x xs a)) (part_shorter ys (x ∷ xs) (rest_ascends y ys b) a) (Contains-cases y ys x (All-contains (Contains (y ∷ ys)) (x ∷ xs) x all (Contains-head x xs)))
+part_shorter (y ∷ ys) (x ∷ xs) b a all = by (part_shorter ys xs (rest_ascends y ys b) (rest_ascends x xs a))
+    (part_shorter ys (x ∷ xs) (rest_ascends y ys b) a) (Contains-cases y ys x (All-contains (Contains (y ∷ ys)) (x ∷ xs) x all (Contains-head x xs)))
   where
-    by : (All (Contains ys) xs → (xs ≡ ys) ⊎ (length xs < length ys)) → (All (Contains ys) (x ∷ xs) → (x ∷ xs ≡ ys) ⊎ (length (x ∷ xs) < length ys)) → (y ≡ x) ⊎ Contains ys x → (x ∷ xs ≡ y ∷ ys) ⊎ (length (x ∷ xs) < length (y ∷ ys))
+    by : (All (Contains ys) xs → (xs ≡ ys) ⊎ (length xs < length ys)) → (All (Contains ys) (x ∷ xs) → (x ∷ xs ≡ ys) ⊎ (length (x ∷ xs) < length ys)) → (y ≡ x)
+        ⊎ Contains ys x → (x ∷ xs ≡ y ∷ ys) ⊎ (length (x ∷ xs) < length (y ∷ ys))
     by both one (inl e) = elim (both (within_rest x ys xs a (subst (λ (z : ℕ). All (Contains (z ∷ ys)) (x ∷ xs)) e all))) [
       | inl same ↦ inl (ap (λ (z : ℕ). z ∷ xs) (sym e) ∙ ap (λ (zs : List ℕ). y ∷ zs) same)
       | inr less ↦ inr (omega arith)

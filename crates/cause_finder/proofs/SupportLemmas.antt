@@ -60,7 +60,8 @@ pub put_itself : (k : Support) (xs : List Support) → Has (insert_key support_c
 put_itself k [] = (k, Contains-head k [], refl)
 put_itself k (x ∷ xs) = by (support_cmp k x) refl (put_itself k xs)
   where
-    by : (o : Ordering) → support_cmp k x ≡ o → Has (insert_key support_cmp xs k) (pair_of k) → Has (match_ordering o (k ∷ x ∷ xs) (x ∷ xs) (x ∷ insert_key support_cmp xs k)) (pair_of k)
+    by : (o : Ordering) → support_cmp k x ≡ o → Has (insert_key support_cmp xs k) (pair_of k)
+        → Has (match_ordering o (k ∷ x ∷ xs) (x ∷ xs) (x ∷ insert_key support_cmp xs k)) (pair_of k)
     by Less is more = (k, Contains-head k (x ∷ xs), refl)
     by Equal is more = (x, Contains-head x xs, sym (pairs_same k x is))
     by Greater is (s, there, e) = (s, Contains-later x (insert_key support_cmp xs k) s there, e)
@@ -69,7 +70,8 @@ pub put_kept : (k : Support) (xs : List Support) (r : Support) → Contains xs r
 put_kept k [] r there = absurd (Contains-nil r there)
 put_kept k (x ∷ xs) r there = by (support_cmp k x) (Contains-cases x xs r there) (put_kept k xs r)
   where
-    by : (o : Ordering) → (x ≡ r) ⊎ Contains xs r → (Contains xs r → Contains (insert_key support_cmp xs k) r) → Contains (match_ordering o (k ∷ x ∷ xs) (x ∷ xs) (x ∷ insert_key support_cmp xs k)) r
+    by : (o : Ordering) → (x ≡ r) ⊎ Contains xs r → (Contains xs r → Contains (insert_key support_cmp xs k) r)
+        → Contains (match_ordering o (k ∷ x ∷ xs) (x ∷ xs) (x ∷ insert_key support_cmp xs k)) r
     by Less _ more = Contains-later k (x ∷ xs) r there
     by Equal _ more = there
     by Greater (inl e) more = subst (Contains (x ∷ insert_key support_cmp xs k)) e (Contains-head x (insert_key support_cmp xs k))
@@ -87,7 +89,8 @@ sorted_tail x xs sorted = sorted.1
 differ : (k s : Support) (o : Ordering) → support_cmp k s ≡ o → (o ≡ Equal → ⊥) → pair_of s ≡ pair_of k → ⊥
 differ k s o is other e = other (sym is ∙ same_pair k s (sym e))
 
-pub put_only : (k : Support) (xs : List Support) → IsStrictlySortedBy support_cmp xs → (r : Support) → Contains (insert_key support_cmp xs k) r → Contains xs r ⊎ ((r ≡ k) × (Has xs (pair_of k) → ⊥))
+pub put_only : (k : Support) (xs : List Support) → IsStrictlySortedBy support_cmp xs → (r : Support) → Contains (insert_key support_cmp xs k) r
+    → Contains xs r ⊎ ((r ≡ k) × (Has xs (pair_of k) → ⊥))
 put_only k [] sorted r there = elim (Contains-cases k [] r there) [ inl e ↦ inr (sym e, λ (s, c, d). Contains-nil s c) | inr h ↦ inl h ]
 put_only k (x ∷ xs) sorted r there = by (support_cmp k x) refl there (put_only k xs (sorted_tail x xs sorted) r)
   where
@@ -103,7 +106,8 @@ put_only k (x ∷ xs) sorted r there = by (support_cmp k x) refl there (put_only
       | inr d ↦ none (s, d, e)
     ]
 
-    by : (o : Ordering) → support_cmp k x ≡ o → Contains (match_ordering o (k ∷ x ∷ xs) (x ∷ xs) (x ∷ insert_key support_cmp xs k)) r → (Contains (insert_key support_cmp xs k) r → Contains xs r ⊎ ((r ≡ k) × (Has xs (pair_of k) → ⊥)))
+    by : (o : Ordering) → support_cmp k x ≡ o → Contains (match_ordering o (k ∷ x ∷ xs) (x ∷ xs) (x ∷ insert_key support_cmp xs k)) r
+        → (Contains (insert_key support_cmp xs k) r → Contains xs r ⊎ ((r ≡ k) × (Has xs (pair_of k) → ⊥)))
         → Contains (x ∷ xs) r ⊎ ((r ≡ k) × (Has (x ∷ xs) (pair_of k) → ⊥))
     by Less is there more = elim (Contains-cases k (x ∷ xs) r there) [ inl e ↦ inr (sym e, less_than_all is) | inr h ↦ inl h ]
     by Equal is there more = inl there
@@ -127,7 +131,8 @@ module _ (k : Support) (old new : List Support) (put : new ≡ insert_key suppor
     right = λ s there. by s (put_only k old sorted s (subst (λ (xs : List Support). Contains xs s) put there));
   }
     where
-      by : (s : Support) → Contains old s ⊎ ((s ≡ k) × (Has old (pair_of k) → ⊥)) → Contains old s ⊎ ((s.member ≡ k.member) × (pair_of s ≡ pair_of k) × ¬ Has old (pair_of s))
+      by : (s : Support) → Contains old s ⊎ ((s ≡ k) × (Has old (pair_of k) → ⊥)) → Contains old s
+          ⊎ ((s.member ≡ k.member) × (pair_of s ≡ pair_of k) × ¬ Has old (pair_of s))
       by s (inl there) = inl there
       by s (inr (e, none)) = inr (ap (λ (x : Support). x.member) e, ap pair_of e, (λ h. none (subst (Has old) (ap pair_of e) h)))
 

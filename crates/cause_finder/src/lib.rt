@@ -9,8 +9,6 @@ mod parts;
 mod refusal;
 mod smaller;
 mod support;
-#[cfg(test)]
-mod tests;
 
 pub use answers::causes;
 pub use candidate::Candidate;

@@ -35,13 +35,16 @@ refuted_shown p L M parallel more r =
     Refutes-more (Searched p.trail p.arena) (Inside (is_in p.trail.focus) (LiveIn (bare p))) L M (λ c m. (live_shown p c parallel m.0, m.1)) more r
 
 pub shown_refuted : (p : StoreState) (L : ℕ → Type 0) → Refutes (Inside (is_in p.trail.focus) (LiveIn (bare p))) L → Refutes (Searched p.trail p.arena) L
-shown_refuted p L r = Refutes-more (Inside (is_in p.trail.focus) (LiveIn (bare p))) (Searched p.trail p.arena) L L (λ c m. (shown_live p c m.0, m.1)) (λ l m. m) r
+shown_refuted p L r = Refutes-more (Inside (is_in p.trail.focus) (LiveIn (bare p))) (Searched p.trail p.arena) L L (λ c m. (shown_live p c m.0, m.1))
+    (λ l m. m) r
 
-pub separates_live : (p : StoreState) (scope : List ℕ) → length p.labels ≡ length p.arena.live → Separates (is_in scope) (LiveIn (bare p)) → Separates (is_in scope) (ArenaLive p.arena)
+pub separates_live : (p : StoreState) (scope : List ℕ) → length p.labels ≡ length p.arena.live → Separates (is_in scope) (LiveIn (bare p))
+    → Separates (is_in scope) (ArenaLive p.arena)
 separates_live p scope parallel h c m = h c (live_shown p c parallel m)
 
 -- the same clauses have the same models
-pub IsModelOf-same : (S T : List ℕ → Type 0) (scope assume literals : List ℕ) → ((c : List ℕ) → S c → T c) → ((c : List ℕ) → T c → S c) → IsModelOf S scope assume literals → IsModelOf T scope assume literals
+pub IsModelOf-same : (S T : List ℕ → Type 0) (scope assume literals : List ℕ) → ((c : List ℕ) → S c → T c) → ((c : List ℕ) → T c → S c)
+    → IsModelOf S scope assume literals → IsModelOf T scope assume literals
 IsModelOf-same S T scope assume literals to from h = record {
   assumed = h.assumed;
   satisfied = λ c m. h.satisfied c (from c m.0, m.1);
@@ -56,7 +59,8 @@ IsModelOf-same S T scope assume literals to from h = record {
     others v is = (let o = h.others v is in (o.0, o.1, o.2, occurs o.1 o.3))
 
 -- and the same clauses may be learned at them
-pub IsLearnable-same : (S T : List ℕ → Type 0) (clause : List ℕ) → ((c : List ℕ) → S c → T c) → ((c : List ℕ) → T c → S c) → IsLearnable S clause → IsLearnable T clause
+pub IsLearnable-same : (S T : List ℕ → Type 0) (clause : List ℕ) → ((c : List ℕ) → S c → T c) → ((c : List ℕ) → T c → S c) → IsLearnable S clause
+    → IsLearnable T clause
 IsLearnable-same S T clause to from h = record {
   not_empty = h.not_empty;
   distinct = h.distinct;
@@ -71,9 +75,11 @@ IsLearnable-same S T clause to from h = record {
 }
 
 -- what a stop says, by what the store shows
-pub stops_shown : (assume : List ℕ) (p : StoreState) (at : Stop) → length p.labels ≡ length p.arena.live → Stops assume p.trail p.arena at → StoreStops assume p at
+pub stops_shown : (assume : List ℕ) (p : StoreState) (at : Stop) → length p.labels ≡ length p.arena.live → Stops assume p.trail p.arena at
+    → StoreStops assume p at
 stops_shown assume p stop.Refuted parallel r = refuted_shown p (Contains assume) (Contains assume) parallel (λ l m. m) r
-stops_shown assume p stop.Model parallel h = IsModelOf-same (ArenaLive p.arena) (LiveIn (bare p)) p.trail.focus assume (literals_on p.trail.entries) (λ c m. live_shown p c parallel m) (λ c m. shown_live p c m) h
+stops_shown assume p stop.Model parallel h = IsModelOf-same (ArenaLive p.arena) (LiveIn (bare p)) p.trail.focus assume (literals_on p.trail.entries)
+    (λ c m. live_shown p c parallel m) (λ c m. shown_live p c m) h
 stops_shown assume p (stop.Falsified clause assumed) parallel (seeks, above, falsified) = (
   seeks,
   above,
@@ -104,7 +110,8 @@ IsKept-trail p trail kept same = record {
 }
 
 -- the clause of a lesson is proper
-pub lesson_proper : (n : ℕ) (trail : Trail) (arena : Arena) (clause : List ℕ) (asserting back : ℕ) → AreProper n arena.live → IsLesson (Searched trail arena) trail clause asserting back → IsProper n clause
+pub lesson_proper : (n : ℕ) (trail : Trail) (arena : Arena) (clause : List ℕ) (asserting back : ℕ) → AreProper n arena.live
+    → IsLesson (Searched trail arena) trail clause asserting back → IsProper n clause
 lesson_proper n trail arena clause asserting back proper lesson = record {
   some = lesson.learnable.not_empty;
   in_range = λ k d p. in_range (get_or clause k d) (Contains-get_or clause k d p);
@@ -117,4 +124,5 @@ lesson_proper n trail arena clause asserting back proper lesson = record {
         All-contains (λ (x : ℕ). variable_of x < n) held.literals l h.in_range (subst (λ (d : List ℕ). Contains d l) (sym same) m)
 
     in_range : (l : ℕ) → Contains clause l → variable_of l < n
-    in_range l m = (let o : OccursIn (Searched trail arena) l = All-contains (OccursIn (Searched trail arena)) clause l lesson.learnable.occur m in held_range l o.0 o.1.0 o.2)
+    in_range l m = (let o : OccursIn (Searched trail arena) l = All-contains (OccursIn (Searched trail arena)) clause l lesson.learnable.occur m in
+        held_range l o.0 o.1.0 o.2)

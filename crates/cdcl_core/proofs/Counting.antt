@@ -1,5 +1,6 @@
 -- Counts of variables, as literals of a clause raise and lower them.
-use Rattle.std.proofs.Common.{◌≡◌, ◌≢◌, ℕ, ◌<◌, ◌≤◌, ◌+◌, ◌-◌, inl, inr, Option, List, [], ◌∷◌, length, take, get_or, get_or-set_other, Contains, Bool, true, false, cond, not, eqb, sym, subst, ap, ◌∙◌, arith}
+use Rattle.std.proofs.Common.{◌≡◌, ◌≢◌, ℕ, ◌<◌, ◌≤◌, ◌+◌, ◌-◌, inl, inr, Option, List, [], ◌∷◌, length, take, get_or, get_or-set_other, Contains, Bool, true}
+use Rattle.std.proofs.Common.{false, cond, not, eqb, sym, subst, ap, ◌∙◌, arith}
 use Rattle.std.proofs.lemmas.Bool.{cases_eq, ne_eqb, eq-eqb}
 use Rattle.std.proofs.lemmas.List.Elements.{All-filter}
 use Rattle.std.proofs.lemmas.List.Kept.{AllPairs-filter}
@@ -34,7 +35,8 @@ raise_room old now literals i v distinct h is raised =
 
 -- one more variable is raised
 pub raised_more : (old now new : Trail) (literals : List ℕ) (i v : ℕ) → i < length literals → v ≡ variable_of (get_or literals i 0)
-    → ((w : ℕ) → count_of now w ≡ count_of old w + tally w (take i literals)) → new ≡ with_count now v (count_of now v + 1) → count_of new v ≡ count_of now v + 1
+    → ((w : ℕ) → count_of now w ≡ count_of old w + tally w (take i literals)) → new ≡ with_count now v (count_of now v + 1)
+    → count_of new v ≡ count_of now v + 1
     → (w : ℕ) → count_of new w ≡ count_of old w + tally w (take (i + 1) literals)
 raised_more old now new literals i v h is raised exact up w =
     let more = tally_more w literals i h in
@@ -60,7 +62,8 @@ lower_counted old now literals i v h is counted lowered =
 
 -- one more variable is lowered
 pub lowered_more : (old now new : Trail) (literals : List ℕ) (i v : ℕ) → i < length literals → v ≡ variable_of (get_or literals i 0)
-    → ((w : ℕ) → count_of now w + tally w (take i literals) ≡ count_of old w) → new ≡ with_count now v (count_of now v - 1) → count_of new v + 1 ≡ count_of now v
+    → ((w : ℕ) → count_of now w + tally w (take i literals) ≡ count_of old w) → new ≡ with_count now v (count_of now v - 1)
+    → count_of new v + 1 ≡ count_of now v
     → (w : ℕ) → count_of new w + tally w (take (i + 1) literals) ≡ count_of old w
 lowered_more old now new literals i v h is lowered exact down w =
     let more = tally_more w literals i h in
@@ -82,19 +85,23 @@ occurrences-without v low [] h rises m = absurd (Contains-nil h m)
 occurrences-without v low (x ∷ xs) h (here, rest) m =
     elim (Contains-cons_cases x xs h m) [
       | inl e ↦ first e (eqb x.reference h.reference) (eq-eqb x.reference h.reference (ap (λ (y : HeldClause). y.reference) e))
-      | inr t ↦ later (occurrences-without v (x.reference + 1) xs h rest t) (eqb x.reference h.reference) (ne_eqb x.reference h.reference (λ e. let above = RisesFrom-above (x.reference + 1) xs h rest t in omega arith))
+      | inr t ↦ later (occurrences-without v (x.reference + 1) xs h rest t) (eqb x.reference h.reference)
+          (ne_eqb x.reference h.reference (λ e. let above = RisesFrom-above (x.reference + 1) xs h rest t in omega arith))
     ]
   where
-    first : x ≡ h → (b : Bool) → b ≡ true → occurrences v (x ∷ xs) ≡ occurrences v (cond (not b) (x ∷ without xs h.reference) (without xs h.reference)) + tally v h.literals
+    first : x ≡ h → (b : Bool) → b ≡ true → occurrences v (x ∷ xs)
+        ≡ occurrences v (cond (not b) (x ∷ without xs h.reference) (without xs h.reference)) + tally v h.literals
     first e true is =
-        let others = without_none xs h.reference (λ y k d. let above = RisesFrom-above (x.reference + 1) xs y rest k in let same = ap (λ (z : HeldClause). z.reference) e in omega arith) in
+        let others = without_none xs h.reference (λ y k d. let above = RisesFrom-above (x.reference + 1) xs y rest k in let same =
+        ap (λ (z : HeldClause). z.reference) e in omega arith) in
         let front = occurrences-cons v x xs in
         let this = ap (λ (z : HeldClause). tally v z.literals) e in
         let tail = ap (occurrences v) others in
         omega (arith, front, this, tail)
     first e false is = absurd (cc)
 
-    later : occurrences v xs ≡ occurrences v (without xs h.reference) + tally v h.literals → (b : Bool) → b ≡ false → occurrences v (x ∷ xs) ≡ occurrences v (cond (not b) (x ∷ without xs h.reference) (without xs h.reference)) + tally v h.literals
+    later : occurrences v xs ≡ occurrences v (without xs h.reference) + tally v h.literals → (b : Bool) → b ≡ false
+        → occurrences v (x ∷ xs) ≡ occurrences v (cond (not b) (x ∷ without xs h.reference) (without xs h.reference)) + tally v h.literals
     later inner true is = absurd (cc)
     later inner false is =
         let front = occurrences-cons v x xs in
@@ -110,12 +117,14 @@ pub tally-le_occurrences : (v : ℕ) (live : List HeldClause) (h : HeldClause) �
 tally-le_occurrences v live h ascending m = let all = occurrences-dropped v live h ascending m in omega (arith, all)
 
 -- what is left of proper clauses in order is so too
-pub AreProper-drops : (which : Selection) (n : ℕ) (number : Option ℕ) (r : ℕ) (live new : List HeldClause) (gone : Bool) → DropsIf which number r live new gone → AreProper n live → AreProper n new
+pub AreProper-drops : (which : Selection) (n : ℕ) (number : Option ℕ) (r : ℕ) (live new : List HeldClause) (gone : Bool)
+    → DropsIf which number r live new gone → AreProper n live → AreProper n new
 AreProper-drops which n number r live new true (taken, same) proper =
     subst (AreProper n) (sym same) (All-filter (λ held. not (eqb held.reference r)) (λ held. IsProper n held.literals) live proper)
 AreProper-drops which n number r live new false (taken, same) proper = subst (AreProper n) (sym same) proper
 
-pub AreAscending-drops : (which : Selection) (number : Option ℕ) (r : ℕ) (live new : List HeldClause) (gone : Bool) → DropsIf which number r live new gone → AreAscending live → AreAscending new
+pub AreAscending-drops : (which : Selection) (number : Option ℕ) (r : ℕ) (live new : List HeldClause) (gone : Bool) → DropsIf which number r live new gone
+    → AreAscending live → AreAscending new
 AreAscending-drops which number r live new true (taken, same) ascending =
     subst AreAscending (sym same) (AllPairs-filter (λ a b. a.reference < b.reference) (λ held. not (eqb held.reference r)) live ascending)
 AreAscending-drops which number r live new false (taken, same) ascending = subst AreAscending (sym same) ascending

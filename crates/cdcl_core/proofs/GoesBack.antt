@@ -13,16 +13,20 @@ use Rattle.clause_meaning.specs.Learning.{is_in, With}
 use Rattle.clause_learning.specs.Searching.{LiveAmong, Searched, IsSearching, AreAssumed, UnitsStand}
 use Rattle.clause_learning.proofs.LevelFacts.{IsKnownAt-append, IsKnownAt-append_above}
 use Rattle.clause_learning.proofs.Keeping.{IsSearching-fix, IsSearching-force}
-use Rattle.clause_learning.proofs.Assumed.{AreAssumed-lower, AreAssumed-guess, AreAssumed-append, AreAssumed-front, UnitsStand-append, UnitsStand-front, UnitsStand-longer, UnitsStand-unit}
-use Rattle.clause_learning.proofs.AfterLesson.{LiveIn-pushed, LiveAmong-pushed_cases, Names-pushed, IsSearching-learned, lesson_reason, lesson_unit, lesson_inside}
+use Rattle.clause_learning.proofs.Assumed.{AreAssumed-lower, AreAssumed-guess, AreAssumed-append, AreAssumed-front, UnitsStand-append, UnitsStand-front}
+use Rattle.clause_learning.proofs.Assumed.{UnitsStand-longer, UnitsStand-unit}
+use Rattle.clause_learning.proofs.AfterLesson.{LiveIn-pushed, LiveAmong-pushed_cases, Names-pushed, IsSearching-learned, lesson_reason, lesson_unit}
+use Rattle.clause_learning.proofs.AfterLesson.{lesson_inside}
 use Rattle.clause_learning.proofs.Reached.{named_live}
 use Rattle.clause_learning.specs.Lessons.{IsLesson}
 use Rattle.cdcl_core.specs.Store.{AreCounted, OnlyCounts}
 use Rattle.cdcl_core.specs.Seeking.{IsSought, Seeks, IsAfter}
 
-IsSought-pushed : (assume : List ℕ) (arena larger : Arena) (reference : ℕ) (clause : List ℕ) (l : ℕ) → Holds arena larger (with_clause arena.live reference clause) → IsSought assume arena l → IsSought assume larger l
+IsSought-pushed : (assume : List ℕ) (arena larger : Arena) (reference : ℕ) (clause : List ℕ) (l : ℕ)
+    → Holds arena larger (with_clause arena.live reference clause) → IsSought assume arena l → IsSought assume larger l
 IsSought-pushed assume arena larger reference clause l holds (inl m) = inl m
-IsSought-pushed assume arena larger reference clause l holds (inr (k, same, (c, live, m))) = inr (k, same, (c, LiveIn-pushed arena larger reference clause c holds live, m))
+IsSought-pushed assume arena larger reference clause l holds (inr (k, same, (c, live, m))) =
+    inr (k, same, (c, LiveIn-pushed arena larger reference clause c holds live, m))
 
 -- the trail after the cut, before the literal is assigned
 pub record IsBack (assume : List ℕ) (cut : State) (arena : Arena) (S : List ℕ → Type 0) (assumed : ℕ) : Type 0 where
@@ -45,7 +49,8 @@ pub record SeeksApart (assume : List ℕ) (trail : State) (arena : Arena) (assum
   pub sought : AreAssumed (IsSought assume arena) trail.entries trail.level
   pub known : assumed < trail.level → (l : ℕ) → Contains assume l → IsKnownAt trail.entries assumed l
 
-pub SeeksApart-counts : (assume : List ℕ) (was old : State) (before : Arena) (assumed : ℕ) → Seeks assume was before assumed → OnlyCounts was old → SeeksApart assume old before assumed
+pub SeeksApart-counts : (assume : List ℕ) (was old : State) (before : Arena) (assumed : ℕ) → Seeks assume was before assumed → OnlyCounts was old
+    → SeeksApart assume old before assumed
 SeeksApart-counts assume was old before assumed s only =
     subst (λ (t : State). SeeksApart assume t before assumed) (sym only)
     (record { stand = s.stand; in_range = s.in_range; inside = s.inside; given = s.given; sought = s.sought; known = s.known })
@@ -67,7 +72,8 @@ IsSearching-counts was old arena s only =
       searched = s.searched;
     })
 
-IsLesson-counts : (was old : State) (arena : Arena) (clause : List ℕ) (asserting back : ℕ) → IsLesson (Searched was arena) was clause asserting back → OnlyCounts was old
+IsLesson-counts : (was old : State) (arena : Arena) (clause : List ℕ) (asserting back : ℕ) → IsLesson (Searched was arena) was clause asserting back
+    → OnlyCounts was old
     → IsLesson (Searched old arena) old clause asserting back
 IsLesson-counts was old arena clause asserting back h only =
     subst (λ (t : State). IsLesson (Searched t arena) t clause asserting back) (sym only)
@@ -83,7 +89,8 @@ IsLesson-counts was old arena clause asserting back h only =
     })
 
 -- after a clause was added, and counted
-pub IsAfter-put : (was old : State) (before arena : Arena) (reference : ClauseRef) (clause : List ℕ) (asserting back : ℕ) → IsSearching was before → IsLesson (Searched was before) was clause asserting back
+pub IsAfter-put : (was old : State) (before arena : Arena) (reference : ClauseRef) (clause : List ℕ) (asserting back : ℕ) → IsSearching was before
+    → IsLesson (Searched was before) was clause asserting back
     → OnlyCounts was old → Holds before arena (with_clause before.live reference.place clause) → IsAfter before old arena reference clause asserting back
 IsAfter-put was old before arena reference clause asserting back s lesson only holds = record {
   searching = IsSearching-counts was old before s only;
@@ -91,8 +98,10 @@ IsAfter-put was old before arena reference clause asserting back s lesson only h
   holds = holds;
 }
 
-pub IsBack-cut : (assume : List ℕ) (old cut : State) (before arena : Arena) (reference : ClauseRef) (clause : List ℕ) (asserting back assumed : ℕ) → SeeksApart assume old before assumed
-    → IsAfter before old arena reference clause asserting back → CutsTo old cut back → Fits cut before → AreCounted old arena.live → IsBack assume cut arena (Searched old before) (min assumed back)
+pub IsBack-cut : (assume : List ℕ) (old cut : State) (before arena : Arena) (reference : ClauseRef) (clause : List ℕ) (asserting back assumed : ℕ)
+    → SeeksApart assume old before assumed
+    → IsAfter before old arena reference clause asserting back → CutsTo old cut back → Fits cut before → AreCounted old arena.live
+    → IsBack assume cut arena (Searched old before) (min assumed back)
 IsBack-cut assume old cut before arena reference clause asserting back assumed s after cuts fits counted =
     let lower : back < old.level = after.lesson.asserts.back_below in
     let at : cut.level ≡ back = cuts.level in record {
@@ -103,11 +112,13 @@ IsBack-cut assume old cut before arena reference clause asserting back assumed s
       inside = subst (λ (vs : List ℕ). IsInside (is_in vs) assume) (sym cuts.focus) s.inside;
       reached = omega (arith, at);
       given = AreAssumed-front (Contains assume) cut.entries cuts.cut.0 (min assumed back)
-          (subst (λ (es : List TrailEntry). AreAssumed (Contains assume) es (min assumed back)) cuts.cut.1 (AreAssumed-lower (Contains assume) old.entries (min assumed back) assumed (omega arith) s.given));
+          (subst (λ (es : List TrailEntry). AreAssumed (Contains assume) es (min assumed back)) cuts.cut.1
+          (AreAssumed-lower (Contains assume) old.entries (min assumed back) assumed (omega arith) s.given));
       sought = AreAssumed-front (IsSought assume arena) cut.entries cuts.cut.0 cut.level
           (subst (λ (es : List TrailEntry). AreAssumed (IsSought assume arena) es cut.level) cuts.cut.1
           (AreAssumed-lower (IsSought assume arena) old.entries cut.level old.level (omega (arith, at, lower))
-          (λ k d p none above up. IsSought-pushed assume before arena reference.place clause (get_or old.entries k d).literal after.holds (s.sought k d p none above up))));
+          (λ k d p none above up. IsSought-pushed assume before arena reference.place clause (get_or old.entries k d).literal after.holds
+          (s.sought k d p none above up))));
       known = λ below l m. known below l m;
     }
   where
@@ -118,11 +129,13 @@ IsBack-cut assume old cut before arena reference clause asserting back assumed s
         let less : assumed < back = omega (arith, below, at) in
         let same : assumed ≡ min assumed back = omega (arith, less) in
         subst (λ (n : ℕ). IsKnownAt cut.entries n l) same
-        (IsKnownAt-append_above cut.entries cuts.cut.0 assumed l (λ k d p. (let above : back < (get_or cuts.cut.0 k d).level = cuts.cut.3 k d p in omega (arith, above, less)))
+        (IsKnownAt-append_above cut.entries cuts.cut.0 assumed l (λ k d p.
+        (let above : back < (get_or cuts.cut.0 k d).level = cuts.cut.3 k d p in omega (arith, above, less)))
         (subst (λ (es : List TrailEntry). IsKnownAt es assumed l) cuts.cut.1 (s.known (omega (arith, less, lower)) l m)))
 
 -- the clauses of the search afterwards
-searched_cases : (old cut : State) (before arena : Arena) (reference : ClauseRef) (clause c : List ℕ) (asserting back : ℕ) → IsAfter before old arena reference clause asserting back → CutsTo old cut back
+searched_cases : (old cut : State) (before arena : Arena) (reference : ClauseRef) (clause c : List ℕ) (asserting back : ℕ)
+    → IsAfter before old arena reference clause asserting back → CutsTo old cut back
     → Searched cut arena c → With (Searched old before) clause c
 searched_cases old cut before arena reference clause c asserting back after cuts m =
     LiveAmong-pushed_cases old.focus before arena reference.place clause c after.holds (subst (λ (vs : List ℕ). LiveAmong vs arena c) cuts.focus m)
@@ -134,7 +147,9 @@ pub Seeks-unit : (assume : List ℕ) (old cut new : State) (before arena : Arena
 Seeks-unit assume old cut new before arena reference clause asserting back assumed b after cuts one is fits =
     subst (λ (s : State). Seeks assume s arena assumed) (sym is) (record {
       searching = IsSearching-fix cut arena asserting b.searching on_zero unit_searched (subst (λ (s : State). Fits s arena) is fits);
-      stand = λ u m. (UnitsStand-unit (Searched old before) cut.entries e on_zero b.stand) u (subst (λ (c : List ℕ). With (Searched old before) c (u ∷ [])) lesson.0 (searched_cases old cut before arena reference clause (u ∷ []) asserting back after cuts m));
+      stand = λ u m. (UnitsStand-unit (Searched old before) cut.entries e on_zero b.stand) u
+          (subst (λ (c : List ℕ). With (Searched old before) c (u ∷ [])) lesson.0
+          (searched_cases old cut before arena reference clause (u ∷ []) asserting back after cuts m));
       counted = b.counted;
       in_range = b.in_range;
       inside = b.inside;
@@ -156,7 +171,8 @@ Seeks-unit assume old cut new before arena reference clause asserting back assum
     unit_searched : Searched cut arena (asserting ∷ [])
     unit_searched = (
       subst (LiveIn arena) lesson.0 (named_live arena reference.place clause (Names-pushed before arena reference.place clause after.holds)),
-      subst (IsInside (is_in cut.focus)) lesson.0 (subst (λ (vs : List ℕ). IsInside (is_in vs) clause) (sym cuts.focus) (lesson_inside old before clause asserting back after.lesson)),
+      subst (IsInside (is_in cut.focus)) lesson.0 (subst (λ (vs : List ℕ). IsInside (is_in vs) clause) (sym cuts.focus)
+          (lesson_inside old before clause asserting back after.lesson)),
     )
 
 -- a longer one forces it
@@ -165,9 +181,11 @@ pub Seeks-forced : (assume : List ℕ) (old cut new : State) (before arena : Are
     → new ≡ with_entry cut cut.level asserting (Some reference) → Fits new arena → Seeks assume new arena assumed
 Seeks-forced assume old cut new before arena reference clause asserting back assumed b after cuts two is fits =
     subst (λ (s : State). Seeks assume s arena assumed) (sym is) (record {
-      searching = IsSearching-force cut arena asserting reference b.searching (lesson_reason old cut before arena reference clause asserting back after.lesson cuts after.holds two)
+      searching = IsSearching-force cut arena asserting reference b.searching
+          (lesson_reason old cut before arena reference clause asserting back after.lesson cuts after.holds two)
           (subst (λ (s : State). Fits s arena) is fits);
-      stand = λ u m. (UnitsStand-append (With (Searched old before) clause) cut.entries (e ∷ []) (UnitsStand-longer (Searched old before) cut.entries clause two b.stand)) u
+      stand = λ u m. (UnitsStand-append (With (Searched old before) clause) cut.entries (e ∷ [])
+          (UnitsStand-longer (Searched old before) cut.entries clause two b.stand)) u
           (searched_cases old cut before arena reference clause (u ∷ []) asserting back after cuts m);
       counted = b.counted;
       in_range = b.in_range;
@@ -184,7 +202,8 @@ Seeks-forced assume old cut new before arena reference clause asserting back ass
     some : All (λ (x : TrailEntry). IsSome x.reason) (e ∷ [])
     some = All-cons (λ (x : TrailEntry). IsSome x.reason) e [] refl (All-nil (λ (x : TrailEntry). IsSome x.reason))
 
-pub lesson_long : (before : Arena) (old : State) (arena : Arena) (reference : ClauseRef) (clause : List ℕ) (asserting back : ℕ) → IsAfter before old arena reference clause asserting back
+pub lesson_long : (before : Arena) (old : State) (arena : Arena) (reference : ClauseRef) (clause : List ℕ) (asserting back : ℕ)
+    → IsAfter before old arena reference clause asserting back
     → (length clause ≡ 1 → ⊥) → 2 ≤ length clause
 lesson_long before old arena reference clause asserting back after n = long clause after.lesson.learnable.not_empty n
   where

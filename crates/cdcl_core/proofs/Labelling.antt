@@ -40,7 +40,8 @@ numbers_in-push [] entry = refl
 numbers_in-push (x ∷ xs) entry = ap (put_number x.number) (numbers_in-push xs entry) ∙ put_number-append x.number (numbers_in xs) (put_number entry.number [])
 
 -- one more label of a prefix
-pub numbers_on_more : (labels : List Label) (i : ℕ) (d : Label) → i < length labels → numbers_on (take (i + 1) labels) ≡ numbers_on (take i labels) ++ put_number (get_or labels i d).number []
+pub numbers_on_more : (labels : List Label) (i : ℕ) (d : Label) → i < length labels
+    → numbers_on (take (i + 1) labels) ≡ numbers_on (take i labels) ++ put_number (get_or labels i d).number []
 numbers_on_more labels i d h = ap numbers_on (take_more labels i d h) ∙ numbers_on-push (take i labels) (get_or labels i d)
 
 pub length-put_number : (n : Option ℕ) (xs : List ℕ) → length (put_number n xs) ≤ length xs + 1
@@ -55,15 +56,18 @@ length-numbers_on (n ∷ ns) =
     omega (arith, rest, this)
 
 -- a clause is among those side by side exactly where it is in the arena
-pub labelled_live : (labels : List Label) (live : List HeldClause) (c : List ℕ) → length labels ≡ length live → Any (λ held. held.literals ≡ c) live → Any (λ entry. entry.literals ≡ c) (labelled labels live)
+pub labelled_live : (labels : List Label) (live : List HeldClause) (c : List ℕ) → length labels ≡ length live → Any (λ held. held.literals ≡ c) live
+    → Any (λ entry. entry.literals ≡ c) (labelled labels live)
 labelled_live labels [] c e (k, x, p, is, same) = absurd (omega arith)
 labelled_live [] (h ∷ hs) c e m = absurd (omega arith)
-labelled_live (n ∷ ns) (h ∷ hs) c e (zero, x, p, is, same) = (zero, record { number = n.number; literals = h.literals }, omega arith, refl, ap (λ (y : HeldClause). y.literals) is ∙ same)
+labelled_live (n ∷ ns) (h ∷ hs) c e (zero, x, p, is, same) =
+    (zero, record { number = n.number; literals = h.literals }, omega arith, refl, ap (λ (y : HeldClause). y.literals) is ∙ same)
 labelled_live (n ∷ ns) (h ∷ hs) c e (suc k, x, p, is, same) =
     let rest = labelled_live ns hs c (omega arith) (k, x, omega arith, is, same) in
     (suc rest.0, rest.1, (let q = rest.2 in omega arith), rest.3, rest.4)
 
-pub live_labelled : (labels : List Label) (live : List HeldClause) (c : List ℕ) → Any (λ entry. entry.literals ≡ c) (labelled labels live) → Any (λ held. held.literals ≡ c) live
+pub live_labelled : (labels : List Label) (live : List HeldClause) (c : List ℕ) → Any (λ entry. entry.literals ≡ c) (labelled labels live)
+    → Any (λ held. held.literals ≡ c) live
 live_labelled [] live c (k, x, p, is, same) = absurd (omega arith)
 live_labelled (n ∷ ns) [] c (k, x, p, is, same) = absurd (omega arith)
 live_labelled (n ∷ ns) (h ∷ hs) c (zero, x, p, is, same) = (zero, h, omega arith, refl, ap (λ (y : LiveClause). y.literals) is ∙ same)

@@ -40,13 +40,16 @@ bare-same p arena labels trail holds same =
     (ap (λ (ls : List Label). labelled ls arena.live) same ∙ ap (labelled p.labels) holds.live) refl
 
 -- room was made for one more clause
-pub IsKept-room : (p : StoreState) (arena : Arena) (labels : List Label) → IsKept p → Holds p.arena arena p.arena.live → labels ≡ p.labels → IsKept (record p { arena = arena; labels = labels })
+pub IsKept-room : (p : StoreState) (arena : Arena) (labels : List Label) → IsKept p → Holds p.arena arena p.arena.live → labels ≡ p.labels
+    → IsKept (record p { arena = arena; labels = labels })
 IsKept-room p arena labels kept holds same =
     subst (λ (ls : List Label). IsKept (record p { arena = arena; labels = ls })) (sym same) (IsKept-same p arena kept holds)
 
 -- one more clause, with the next number
-pub IsKept-learned : (p : StoreState) (arena : Arena) (labels : List Label) (trail : Trail) (r : ℕ) (literals : List ℕ) → IsKept p → Holds p.arena arena (with_clause p.arena.live r literals)
-    → IsProper p.arena.variables literals → AreCounted trail arena.live → trail.variables ≡ p.trail.variables → labels ≡ p.labels ++ record { number = Some p.next; goes = false } ∷ []
+pub IsKept-learned : (p : StoreState) (arena : Arena) (labels : List Label) (trail : Trail) (r : ℕ) (literals : List ℕ) → IsKept p
+    → Holds p.arena arena (with_clause p.arena.live r literals)
+    → IsProper p.arena.variables literals → AreCounted trail arena.live → trail.variables ≡ p.trail.variables
+    → labels ≡ p.labels ++ record { number = Some p.next; goes = false } ∷ []
     → IsKept (record { arena = arena; labels = labels; trail = trail; next = p.next + 1 })
 IsKept-learned p arena labels trail r literals kept holds proper counted variables is =
     let held : HeldClause = record { reference = r; literals = literals } in
@@ -65,14 +68,17 @@ IsKept-learned p arena labels trail r literals kept holds proper counted variabl
           (subst (AreNumbered (p.next + 1)) (sym (numbers_in-push (live_in p) entry)) (AreNumbered-push p.next (numbers_in (live_in p)) kept.numbered));
     })
 
-pub bare-learned : (p : StoreState) (arena : Arena) (labels : List Label) (trail : Trail) (r : ℕ) (literals : List ℕ) → length p.labels ≡ length p.arena.live → Holds p.arena arena (with_clause p.arena.live r literals)
+pub bare-learned : (p : StoreState) (arena : Arena) (labels : List Label) (trail : Trail) (r : ℕ) (literals : List ℕ) → length p.labels ≡ length p.arena.live
+    → Holds p.arena arena (with_clause p.arena.live r literals)
     → labels ≡ p.labels ++ record { number = Some p.next; goes = false } ∷ []
     → bare (record { arena = arena; labels = labels; trail = trail; next = p.next + 1 }) ≡ with_learned (bare p) (record { number = p.next; clause = literals })
 bare-learned p arena labels trail r literals parallel holds is =
     let held : HeldClause = record { reference = r; literals = literals } in
     let label : Label = record { number = Some p.next; goes = false } in
-    same_state arena.variables p.arena.variables (p.next + 1) (p.next + 1) (labelled labels arena.live) (live_in p ++ record { number = Some p.next; literals = literals } ∷ []) holds.variables
-    (ap (λ (ls : List Label). labelled ls arena.live) is ∙ (ap (labelled (p.labels ++ label ∷ [])) holds.live ∙ labelled-push p.labels p.arena.live label held parallel)) refl
+    same_state arena.variables p.arena.variables (p.next + 1) (p.next + 1) (labelled labels arena.live)
+    (live_in p ++ record { number = Some p.next; literals = literals } ∷ []) holds.variables
+    (ap (λ (ls : List Label). labelled ls arena.live) is ∙ (ap (labelled (p.labels ++ label ∷ [])) holds.live
+    ∙ labelled-push p.labels p.arena.live label held parallel)) refl
 
 -- sorted literals of distinct variables ascend
 ascending_literals : (literals : List ℕ) → IsSorted nat_cmp literals → HaveDistinctVariables literals → AllPairs (λ k l. k < l) literals
@@ -81,7 +87,8 @@ ascending_literals literals sorted distinct i j d before within =
     less_unless_same (get_or literals i d) (get_or literals j d) up (λ e. distinct i j d before within (ap variable_of e))
 
 -- the clause of a lesson is new to what the store shows
-pub new_entry : (p : StoreState) (literals : List ℕ) (asserting back : ℕ) → length p.labels ≡ length p.arena.live → IsSearching p.trail p.arena → IsLesson (Searched p.trail p.arena) p.trail literals asserting back
+pub new_entry : (p : StoreState) (literals : List ℕ) (asserting back : ℕ) → length p.labels ≡ length p.arena.live → IsSearching p.trail p.arena
+    → IsLesson (Searched p.trail p.arena) p.trail literals asserting back
     → IsSorted nat_cmp literals → IsNew (bare p) p.trail.focus (record { number = p.next; clause = literals })
 new_entry p literals asserting back parallel searching lesson sorted = record {
   number = refl;
@@ -94,7 +101,9 @@ new_entry p literals asserting back parallel searching lesson sorted = record {
 }
 
 -- a log that refused it
-pub FailsOn-refused : (old new : State) (scope : List ℕ) (before after : Option LogContent) (was now number : ℕ) (clause : List ℕ) (f : SolveFault) → IsNew old scope (record { number = number; clause = clause })
+pub FailsOn-refused : (old new : State) (scope : List ℕ) (before after : Option LogContent) (was now number : ℕ) (clause : List ℕ) (f : SolveFault)
+    → IsNew old scope (record { number = number; clause = clause })
     → new ≡ old → LogRefuses before after was now number clause f → FailsOn old new scope before after was now f
-FailsOn-refused old new scope before after was now number clause fault.Log fresh same (torn, rises) = (record { number = number; clause = clause }, fresh, same, torn, rises)
+FailsOn-refused old new scope before after was now number clause fault.Log fresh same (torn, rises) =
+    (record { number = number; clause = clause }, fresh, same, torn, rises)
 FailsOn-refused old new scope before after was now number clause fault.NoMemory fresh same (told, stays) = (same, told, stays)

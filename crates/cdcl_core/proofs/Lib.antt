@@ -9,7 +9,6 @@ pub mod LogLemmas
 pub mod StoreKept
 pub mod Shows
 pub mod Values
-pub mod TestLemmas
 pub mod Units
 pub mod Seeks
 pub mod GoesBack

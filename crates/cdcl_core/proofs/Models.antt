@@ -1,5 +1,6 @@
 -- The values of a trail on which each variable of the focus is assigned, where propagation is complete, are a model.
-use Rattle.std.proofs.Common.{◌≡◌, ◌≢◌, ℕ, ◌<◌, ◌*◌, ◌⊎◌, inl, inr, List, [], ◌∷◌, length, take, get_or, Contains, Bool, true, false, Option, Some, None, refl, sym, subst, ap, ◌∙◌, arith}
+use Rattle.std.proofs.Common.{◌≡◌, ◌≢◌, ℕ, ◌<◌, ◌*◌, ◌⊎◌, inl, inr, List, [], ◌∷◌, length, take, get_or, Contains, Bool, true, false, Option, Some, None}
+use Rattle.std.proofs.Common.{refl, sym, subst, ap, ◌∙◌, arith}
 use Rattle.std.proofs.lemmas.Bool.{cases_eq, cases_lt, both_ways}
 use Rattle.std.proofs.lemmas.List.Sums.{sum_by-cons}
 use Rattle.clause_meaning.specs.Literals.{opposite_of, variable_of, is_present}
@@ -44,11 +45,13 @@ tally_some v [] k m same = absurd (Contains-nil k m)
 tally_some v (x ∷ xs) k m same =
     let front = sum_by-cons (counts_at v) x xs in
     elim (Contains-cons_cases x xs k m) [
-      | inl e ↦ (let one : counts_at v x ≡ 1 = ap (λ (w : ℕ). counts_at w x) (sym same ∙ ap variable_of (sym e)) ∙ counts_at_same x in omega (arith, front, one))
+      | inl e ↦ (let one : counts_at v x ≡ 1 = ap (λ (w : ℕ). counts_at w x) (sym same ∙ ap variable_of (sym e)) ∙ counts_at_same x in
+          omega (arith, front, one))
       | inr t ↦ (let rest = tally_some v xs k t same in omega (arith, front, rest))
     ]
 
-pub occurrences_found : (v : ℕ) (live : List HeldClause) → occurrences v live ≢ 0 → (k : ℕ) × (variable_of k ≡ v) × (h : HeldClause) × Contains live h × Contains h.literals k
+pub occurrences_found : (v : ℕ) (live : List HeldClause) → occurrences v live ≢ 0 → (k : ℕ) × (variable_of k ≡ v) × (h : HeldClause) × Contains live h
+    × Contains h.literals k
 occurrences_found v [] n = absurd (n refl)
 occurrences_found v (h ∷ hs) n =
     elim (cases_eq (tally v h.literals) 0) [
@@ -59,7 +62,8 @@ occurrences_found v (h ∷ hs) n =
       | inr d ↦ (let found = tally_found v h.literals d in (found.0, found.2, h, Contains-head h hs h refl, found.1))
     ]
 
-occurrences_some : (v : ℕ) (live : List HeldClause) (held : HeldClause) (k : ℕ) → Contains live held → Contains held.literals k → variable_of k ≡ v → 0 < occurrences v live
+occurrences_some : (v : ℕ) (live : List HeldClause) (held : HeldClause) (k : ℕ) → Contains live held → Contains held.literals k → variable_of k ≡ v
+    → 0 < occurrences v live
 occurrences_some v [] held k m has same = absurd (Contains-nil held m)
 occurrences_some v (h ∷ hs) held k m has same =
     let front = occurrences-cons v h hs in
@@ -69,7 +73,8 @@ occurrences_some v (h ∷ hs) held k m has same =
     ]
 
 -- a counted variable is sought
-pub counted_sought : (assume : List ℕ) (trail : State) (arena : Arena) (l : ℕ) → AreCounted trail arena.live → count_of trail (variable_of l) ≢ 0 → IsSought assume arena l
+pub counted_sought : (assume : List ℕ) (trail : State) (arena : Arena) (l : ℕ) → AreCounted trail arena.live → count_of trail (variable_of l) ≢ 0
+    → IsSought assume arena l
 counted_sought assume trail arena l counted n =
     let found = occurrences_found (variable_of l) arena.live (λ z. n (counted (variable_of l) ∙ z)) in
     inr (found.0, found.1, (found.2.literals, (found.3.0, found.2, found.3.1, found.3.2, refl), found.4))
@@ -83,7 +88,8 @@ unfolding is_present
 twice_present v = grind arith
 
 -- what is true on the trail is true in its values
-pub true_in_values : (entries : List TrailEntry) (l : ℕ) → ((k : ℕ) → IsTrueOn entries k → IsTrueOn entries (opposite_of k) → ⊥) → IsTrueOn entries l → IsTrueIn (value_in (literals_on entries)) l
+pub true_in_values : (entries : List TrailEntry) (l : ℕ) → ((k : ℕ) → IsTrueOn entries k → IsTrueOn entries (opposite_of k) → ⊥) → IsTrueOn entries l
+    → IsTrueIn (value_in (literals_on entries)) l
 true_in_values entries l consistent on = by_sign (is_present l) refl
   where
     by_sign : (b : Bool) → is_present l ≡ b → value_on entries (variable_of l) ≡ b
@@ -120,34 +126,42 @@ one_or_none entries (x ∷ xs) h =
 clause_sought : (assume : List ℕ) (arena : Arena) (c : List ℕ) (l : ℕ) → LiveIn arena c → Contains c l → IsSought assume arena l
 clause_sought assume arena c l live m = inr (l, refl, (c, live, m))
 
-reason_sought : (assume : List ℕ) (arena : Arena) (before : List TrailEntry) (l : ℕ) (reason : Option ClauseRef) → IsReason arena before l reason → (reason ≡ None → IsSought assume arena l) → IsSought assume arena l
+reason_sought : (assume : List ℕ) (arena : Arena) (before : List TrailEntry) (l : ℕ) (reason : Option ClauseRef) → IsReason arena before l reason
+    → (reason ≡ None → IsSought assume arena l) → IsSought assume arena l
 reason_sought assume arena before l None r none = none refl
-reason_sought assume arena before l (Some reference) (clause, named, two, forces) none = clause_sought assume arena clause l (named_live arena reference.place clause named) forces.member
+reason_sought assume arena before l (Some reference) (clause, named, two, forces) none =
+    clause_sought assume arena clause l (named_live arena reference.place clause named) forces.member
 
 -- each assigned literal is sought
-entry_sought : (assume : List ℕ) (trail : State) (arena : Arena) (assumed : ℕ) → Seeks assume trail arena assumed → (k : ℕ) (d : TrailEntry) → k < length trail.entries
+entry_sought : (assume : List ℕ) (trail : State) (arena : Arena) (assumed : ℕ) → Seeks assume trail arena assumed → (k : ℕ) (d : TrailEntry)
+    → k < length trail.entries
     → IsSought assume arena (get_or trail.entries k d).literal
 entry_sought assume trail arena assumed s k d p =
     reason_sought assume arena (take k trail.entries) (get_or trail.entries k d).literal (get_or trail.entries k d).reason (s.searching.fits.reasons k d p)
     (λ none. elim (cases_lt 0 (get_or trail.entries k d).level) [
       | inl above ↦ s.sought k d p none above (s.searching.searched.up_to k d p)
       | inr low ↦ clause_sought assume arena ((get_or trail.entries k d).literal ∷ []) (get_or trail.entries k d).literal
-          (s.searching.searched.units k d p none (omega (arith, low))).0 (Contains-head (get_or trail.entries k d).literal [] (get_or trail.entries k d).literal refl)
+          (s.searching.searched.units k d p none (omega (arith, low))).0
+          (Contains-head (get_or trail.entries k d).literal [] (get_or trail.entries k d).literal refl)
     ])
 
-true_sought : (assume : List ℕ) (trail : State) (arena : Arena) (assumed l : ℕ) → Seeks assume trail arena assumed → IsTrueOn trail.entries l → IsSought assume arena l
+true_sought : (assume : List ℕ) (trail : State) (arena : Arena) (assumed l : ℕ) → Seeks assume trail arena assumed → IsTrueOn trail.entries l
+    → IsSought assume arena l
 true_sought assume trail arena assumed l s (k, e, p, is, same) =
     subst (IsSought assume arena) (ap (λ (x : TrailEntry). x.literal) is ∙ same) (entry_sought assume trail arena assumed s k e p)
 
-sought_variable : (assume : List ℕ) (arena : Arena) (l v : ℕ) → variable_of l ≡ v → IsSought assume arena l → (k : ℕ) × (variable_of k ≡ v) × (Contains assume k ⊎ OccursIn (LiveIn arena) k)
+sought_variable : (assume : List ℕ) (arena : Arena) (l v : ℕ) → variable_of l ≡ v → IsSought assume arena l → (k : ℕ) × (variable_of k ≡ v)
+    × (Contains assume k ⊎ OccursIn (LiveIn arena) k)
 sought_variable assume arena l v is (inl m) = (l, is, inl m)
 sought_variable assume arena l v is (inr (k, same, occurs)) = (k, same ∙ is, inr occurs)
 
 -- each clause of the focus has a true literal
-satisfied : (assume : List ℕ) (trail : State) (arena : Arena) (assumed : ℕ) → Seeks assume trail arena assumed → IsComplete trail arena → AreAssigned trail.entries trail.counts trail.focus
+satisfied : (assume : List ℕ) (trail : State) (arena : Arena) (assumed : ℕ) → Seeks assume trail arena assumed → IsComplete trail arena
+    → AreAssigned trail.entries trail.counts trail.focus
     → (c : List ℕ) → Searched trail arena c → Satisfies (value_in (literals_on trail.entries)) c
 satisfied assume trail arena assumed s complete assigned c (live, inside) =
-    elim (one_or_none trail.entries c (λ l m. assigned_true trail.entries l (assigned (variable_of l) (contains_in trail.focus (variable_of l) (inside l m)) (λ z. counted l m z)))) [
+    elim (one_or_none trail.entries c (λ l m. assigned_true trail.entries l
+    (assigned (variable_of l) (contains_in trail.focus (variable_of l) (inside l m)) (λ z. counted l m z)))) [
       | inl (l, m, on) ↦ (l, m, true_in_values trail.entries l s.searching.fits.consistent on)
       | inr none ↦ absurd ((closed_search trail arena s.searching complete s.stand).no_clash (inl (c, (live, inside), none)))
     ]
@@ -158,7 +172,8 @@ satisfied assume trail arena assumed s complete assigned c (live, inside) =
         let is = s.counted (variable_of l) in
         omega (arith, some, is, z)
 
-pub IsModelOn-assigned : (assume : List ℕ) (trail : State) (arena : Arena) (assumed : ℕ) → Seeks assume trail arena assumed → IsComplete trail arena → ((l : ℕ) → Contains assume l → IsTrueOn trail.entries l)
+pub IsModelOn-assigned : (assume : List ℕ) (trail : State) (arena : Arena) (assumed : ℕ) → Seeks assume trail arena assumed → IsComplete trail arena
+    → ((l : ℕ) → Contains assume l → IsTrueOn trail.entries l)
     → AreAssigned trail.entries trail.counts trail.focus → IsModelOn assume trail arena
 IsModelOn-assigned assume trail arena assumed s complete all assigned = record {
   assumed = λ l m. true_in_values trail.entries l s.searching.fits.consistent (all l m);

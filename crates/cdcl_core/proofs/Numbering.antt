@@ -48,7 +48,8 @@ pairs_after_number : (n : Option ℕ) (xs : List ℕ) → AllPairs less (put_num
 pairs_after_number None xs h = h
 pairs_after_number (Some m) xs h = tail_pairs m xs h
 
-pairs_put_number : (p : LiveClause → Bool) (n : Option ℕ) (xs : List LiveClause) → AllPairs less (put_number n (numbers_in xs)) → AllPairs less (numbers_in (filter p xs))
+pairs_put_number : (p : LiveClause → Bool) (n : Option ℕ) (xs : List LiveClause) → AllPairs less (put_number n (numbers_in xs))
+    → AllPairs less (numbers_in (filter p xs))
     → AllPairs less (put_number n (numbers_in (filter p xs)))
 pairs_put_number p None xs h k = k
 pairs_put_number p (Some m) xs h k = AllPairs-cons less m (numbers_in (filter p xs)) (All-numbers_filter (less m) p xs (head_less m (numbers_in xs) h)) k
@@ -61,7 +62,8 @@ ascending_filter p (x ∷ xs) h = step (p x) (ascending_filter p xs (pairs_after
     step true k = pairs_put_number p x.number xs h k
     step false k = k
 
-pub AreNumbered-filter : (next : ℕ) (p : LiveClause → Bool) (live : List LiveClause) → AreNumbered next (numbers_in live) → AreNumbered next (numbers_in (filter p live))
+pub AreNumbered-filter : (next : ℕ) (p : LiveClause → Bool) (live : List LiveClause) → AreNumbered next (numbers_in live)
+    → AreNumbered next (numbers_in (filter p live))
 AreNumbered-filter next p live h = record {
   ascending = ascending_filter p live h.ascending;
   below = All-numbers_filter (λ n. n < next) p live h.below;

@@ -19,10 +19,12 @@ use Rattle.cdcl_core.proofs.Seeks.{contains_in}
 abbrev pub seen : StoreState → Bool → State
 seen parts found = record { variables = parts.arena.variables; live = live_in parts; next = parts.next; values = values_on found parts.trail.entries }
 
-pub AreAskable-bare : (parts : StoreState) (found : Bool) (scope assume : List ℕ) → AreAskable (seen parts found) scope assume → AreAskable (bare parts) scope assume
+pub AreAskable-bare : (parts : StoreState) (found : Bool) (scope assume : List ℕ) → AreAskable (seen parts found) scope assume
+    → AreAskable (bare parts) scope assume
 AreAskable-bare parts found scope assume h = record { ascending = h.ascending; in_range = h.in_range; assumed = h.assumed; separates = h.separates }
 
-pub ends_seen : (parts : StoreState) (found : Bool) (scope assume : List ℕ) (budget : Budget) (o : Outcome) → found ≡ is_model_of o → StoreEnds parts scope assume budget o → Ends (seen parts found) scope assume budget o
+pub ends_seen : (parts : StoreState) (found : Bool) (scope assume : List ℕ) (budget : Budget) (o : Outcome) → found ≡ is_model_of o
+    → StoreEnds parts scope assume budget o → Ends (seen parts found) scope assume budget o
 ends_seen parts found scope assume budget outcome.Refuted is h = (h, ap (λ (b : Bool). values_on b parts.trail.entries) is)
 ends_seen parts found scope assume budget outcome.Spent is (spent, unrefuted) = (spent, unrefuted, ap (λ (b : Bool). values_on b parts.trail.entries) is)
 ends_seen parts found scope assume budget outcome.Model is h = (literals_on parts.trail.entries, ap (λ (b : Bool). values_on b parts.trail.entries) is, h)
@@ -32,7 +34,8 @@ all_variables s [] = refl
 all_variables s (e ∷ es) = all_variables (with_learned s e) es
 
 -- what a model makes present is in range
-pub present_in_range : (old new : StoreState) (found : Bool) (scope assume : List ℕ) (was now budget : Budget) (entries : List Learned) (o : Outcome) → found ≡ is_model_of o
+pub present_in_range : (old new : StoreState) (found : Bool) (scope assume : List ℕ) (was now budget : Budget) (entries : List Learned) (o : Outcome)
+    → found ≡ is_model_of o
     → StoreEnds new scope assume budget o → Learns (bare old) (bare new) scope assume was now entries → All (λ v. v < old.arena.variables) scope
     → found ≡ true → (v : ℕ) → value_in (literals_on new.trail.entries) v ≡ true → v < new.arena.variables
 present_in_range old new found scope assume was now budget entries outcome.Refuted is h learns in_range told v present = absurd (both_ways found is told)

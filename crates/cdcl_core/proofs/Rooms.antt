@@ -6,7 +6,8 @@ use Rattle.clause_learning.specs.Searching.{Searched, IsSearching}
 use Rattle.clause_learning.specs.Lessons.{IsLesson}
 use Rattle.cdcl_core.specs.Seeking.{Seeks}
 
-same_arena : (v w s : ℕ) (xs ys : List HeldClause) → v ≡ w → xs ≡ ys → record { variables = v; live = xs; spare = s } ≡ (let a : Arena = record { variables = w; live = ys; spare = s } in a)
+same_arena : (v w s : ℕ) (xs ys : List HeldClause) → v ≡ w → xs ≡ ys
+    → record { variables = v; live = xs; spare = s } ≡ (let a : Arena = record { variables = w; live = ys; spare = s } in a)
 same_arena v w s xs ys e f = cc
 
 -- only the spare number differs
@@ -38,12 +39,14 @@ with_spare trail arena n s = record {
 pub IsSearching-room : (trail : Trail) (arena roomy : Arena) → Holds arena roomy arena.live → IsSearching trail arena → IsSearching trail roomy
 IsSearching-room trail arena roomy holds s = subst (IsSearching trail) (sym (room_is arena roomy holds)) (with_spare trail arena roomy.spare s)
 
-pub IsLesson-room : (trail : Trail) (arena roomy : Arena) (clause : List ℕ) (asserting back : ℕ) → Holds arena roomy arena.live → IsLesson (Searched trail arena) trail clause asserting back
+pub IsLesson-room : (trail : Trail) (arena roomy : Arena) (clause : List ℕ) (asserting back : ℕ) → Holds arena roomy arena.live
+    → IsLesson (Searched trail arena) trail clause asserting back
     → IsLesson (Searched trail roomy) trail clause asserting back
 IsLesson-room trail arena roomy clause asserting back holds h =
     subst (λ (a : Arena). IsLesson (Searched trail a) trail clause asserting back) (sym (room_is arena roomy holds)) h
 
-pub Seeks-room : (assume : List ℕ) (trail : Trail) (arena roomy : Arena) (assumed : ℕ) → Holds arena roomy arena.live → Seeks assume trail arena assumed → Seeks assume trail roomy assumed
+pub Seeks-room : (assume : List ℕ) (trail : Trail) (arena roomy : Arena) (assumed : ℕ) → Holds arena roomy arena.live → Seeks assume trail arena assumed
+    → Seeks assume trail roomy assumed
 Seeks-room assume trail arena roomy assumed holds s =
     subst (λ (a : Arena). Seeks assume trail a assumed) (sym (room_is arena roomy holds)) (record {
       searching = with_spare trail arena roomy.spare s.searching;

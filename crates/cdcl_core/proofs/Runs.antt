@@ -1,5 +1,6 @@
 -- What a search has done so far: the clauses that it learned, one after another.
-use Rattle.std.proofs.Common.{◌≡◌, ℕ, ◌<◌, ◌≤◌, ◌+◌, inl, inr, List, [], ◌∷◌, ◌++◌, length, map, Option, Some, None, Result, Ok, Err, refl, sym, subst, ap, ◌∙◌, arith}
+use Rattle.std.proofs.Common.{◌≡◌, ℕ, ◌<◌, ◌≤◌, ◌+◌, inl, inr, List, [], ◌∷◌, ◌++◌, length, map, Option, Some, None, Result, Ok, Err, refl, sym, subst, ap}
+use Rattle.std.proofs.Common.{◌∙◌, arith}
 use Rattle.std.proofs.lemmas.List.{append-nil, append_assoc, length_push}
 use Rattle.std.proofs.lemmas.List.Elements.{Contains-append_left, Contains-push, Contains-push_cases}
 use Rattle.clause_meaning.proofs.Members.{Contains-map}
@@ -38,7 +39,8 @@ live_cases s e c (k, x, p, is, same) =
     ]
 
 -- each of the clauses may be learned behind those before it
-are_learnable : (S : List ℕ → Type 0) (s : State) (scope assume : List ℕ) (entries : List Learned) → ((c : List ℕ) → S c → LiveIn s c) → ((c : List ℕ) → LiveIn s c → S c)
+are_learnable : (S : List ℕ → Type 0) (s : State) (scope assume : List ℕ) (entries : List Learned) → ((c : List ℕ) → S c → LiveIn s c)
+    → ((c : List ℕ) → LiveIn s c → S c)
     → AreLearned s scope assume entries → AreLearnable S (map (λ e. e.clause) entries)
 are_learnable S s scope assume [] to from h = tt
 are_learnable S s scope assume (e ∷ es) to from (may, rest) = (
@@ -56,11 +58,13 @@ are_learnable S s scope assume (e ∷ es) to from (may, rest) = (
 -- so they join nothing
 pub JoinNothing-learned : (s : State) (scope assume : List ℕ) (entries : List Learned) → AreLearned s scope assume entries → JoinNothing s entries
 JoinNothing-learned s scope assume entries h m never part parts entry has free =
-    learned_one_sided (LiveIn s) (map (λ (e : Learned). e.clause) entries) m part (are_learnable (LiveIn s) s scope assume entries (λ c m. m) (λ c m. m) h) never parts entry.clause
+    learned_one_sided (LiveIn s) (map (λ (e : Learned). e.clause) entries) m part (are_learnable (LiveIn s) s scope assume entries (λ c m. m) (λ c m. m) h)
+    never parts entry.clause
     (Contains-map (λ (e : Learned). e.clause) entries entry has) free
 
 -- one more at the end
-AreLearned-push : (s : State) (scope assume : List ℕ) (entries : List Learned) (e : Learned) → AreLearned s scope assume entries → MayLearn (with_all s entries) scope assume e
+AreLearned-push : (s : State) (scope assume : List ℕ) (entries : List Learned) (e : Learned) → AreLearned s scope assume entries
+    → MayLearn (with_all s entries) scope assume e
     → AreLearned s scope assume (entries ++ e ∷ [])
 AreLearned-push s scope assume [] e h may = (may, tt)
 AreLearned-push s scope assume (x ∷ xs) e (first, rest) may = (first, AreLearned-push (with_learned s x) scope assume xs e rest may)
@@ -74,14 +78,16 @@ next_after s [] = omega arith
 next_after s (x ∷ xs) = (let rest = next_after (with_learned s x) xs in omega (arith, rest))
 
 -- the log with one more
-LogGets-push : (before mid after : Option LogContent) (entries : List Learned) (e : Learned) → LogGets before mid entries → Appends mid after e.number e.clause → LogGets before after (entries ++ e ∷ [])
+LogGets-push : (before mid after : Option LogContent) (entries : List Learned) (e : Learned) → LogGets before mid entries
+    → Appends mid after e.number e.clause → LogGets before after (entries ++ e ∷ [])
 LogGets-push None None after entries e whole more = more
 LogGets-push None (Some mid) after entries e whole more = subst IsWhole (sym more) whole
 LogGets-push (Some before) mid after entries e got more =
     subst (λ (m : Option LogContent). Appends m after e.number e.clause) got more
     ∙ ap (λ (xs : List Learned). Some (record before { clauses = xs })) (append_assoc before.clauses entries (e ∷ []))
 
-LogFailsOn-torn : (before mid after : Option LogContent) (entries : List Learned) (e : Learned) → LogGets before mid entries → TearsAt mid after e.number e.clause → LogFailsOn before after entries e
+LogFailsOn-torn : (before mid after : Option LogContent) (entries : List Learned) (e : Learned) → LogGets before mid entries
+    → TearsAt mid after e.number e.clause → LogFailsOn before after entries e
 LogFailsOn-torn None mid after entries e got torn = tt
 LogFailsOn-torn (Some before) mid after entries e got torn = subst (λ (m : Option LogContent). TearsAt m after e.number e.clause) got torn
 
@@ -94,13 +100,15 @@ LogGets-none None whole = tt
 LogGets-none (Some before) whole = ap (λ (xs : List Learned). Some (record before { clauses = xs })) (sym (append-nil before.clauses))
 
 -- so far
-pub record Ran (start state : State) (scope assume : List ℕ) (was now : Budget) (before after : Option LogContent) (f g : ℕ) (entries : List Learned) : Type 0 where
+pub record Ran (start state : State) (scope assume : List ℕ) (was now : Budget) (before after : Option LogContent) (f g : ℕ) (entries : List Learned) : Type
+    0 where
   pub learns : Learns start state scope assume was now entries
   pub got : LogGets before after entries
   pub faults : g ≡ f
   pub affords : Affords state now
 
-pub Ran-start : (start state : State) (scope assume : List ℕ) (was : Budget) (before : Option LogContent) (f : ℕ) → Affords start was → IsWhole before → state ≡ start
+pub Ran-start : (start state : State) (scope assume : List ℕ) (was : Budget) (before : Option LogContent) (f : ℕ) → Affords start was → IsWhole before
+    → state ≡ start
     → Ran start state scope assume was was before before f f []
 Ran-start start state scope assume was before f affords whole same =
     subst (λ (s : State). Ran start s scope assume was was before before f f []) (sym same) (record {
@@ -119,10 +127,12 @@ Ran-start start state scope assume was before f affords whole same =
 
 pub Ran-same : (start state new : State) (scope assume : List ℕ) (was now : Budget) (before after : Option LogContent) (f g : ℕ) (entries : List Learned)
     → Ran start state scope assume was now before after f g entries → new ≡ state → Ran start new scope assume was now before after f g entries
-Ran-same start state new scope assume was now before after f g entries ran same = subst (λ (s : State). Ran start s scope assume was now before after f g entries) (sym same) ran
+Ran-same start state new scope assume was now before after f g entries ran same =
+    subst (λ (s : State). Ran start s scope assume was now before after f g entries) (sym same) ran
 
 -- one more clause was learned
-pub Ran-push : (start state new : State) (scope assume : List ℕ) (was now next : Budget) (before mid after : Option LogContent) (f g h : ℕ) (entries : List Learned) (e : Learned)
+pub Ran-push : (start state new : State) (scope assume : List ℕ) (was now next : Budget) (before mid after : Option LogContent) (f g h : ℕ)
+    (entries : List Learned) (e : Learned)
     → Ran start state scope assume was now before mid f g entries → (IsRefuted state scope assume → ⊥) → IsNew state scope e → new ≡ with_learned state e
     → Appends mid after e.number e.clause → h ≡ g → now.used < now.limit → next.used ≡ now.used + 1 → next.limit ≡ now.limit
     → Ran start new scope assume was next before after f h (entries ++ e ∷ [])
@@ -148,7 +158,8 @@ Ran-push start state new scope assume was now next before mid after f g h entrie
       affords = record { within = omega (arith, one, limit, below); numbers = omega (arith, rises, one, limit, below, numbers) };
     }
 
-pub record RunHolds (start : State) (scope assume : List ℕ) (was now : Budget) (before after : Option LogContent) (f g : ℕ) (parts : StoreState) (assumed : ℕ) (entries : List Learned) : Type 0 where
+pub record RunHolds (start : State) (scope assume : List ℕ) (was now : Budget) (before after : Option LogContent) (f g : ℕ) (parts : StoreState) (assumed : ℕ)
+    (entries : List Learned) : Type 0 where
   pub ran : Ran start (bare parts) scope assume was now before after f g entries
   pub seeks : Seeks assume parts.trail parts.arena assumed
   pub focus : parts.trail.focus ≡ scope
@@ -158,13 +169,16 @@ abbrev pub Ended : State → State → List ℕ → List ℕ → Budget → Budg
 Ended start state scope assume was now before after f g result =
     (entries : List Learned) × Learns start state scope assume was now entries × LogEnds state scope assume now before after f g entries result
 
-pub Ended-ok : (start state : State) (scope assume : List ℕ) (was now : Budget) (before after : Option LogContent) (f g : ℕ) (entries : List Learned) (outcome : Outcome)
+pub Ended-ok : (start state : State) (scope assume : List ℕ) (was now : Budget) (before after : Option LogContent) (f g : ℕ) (entries : List Learned)
+    (outcome : Outcome)
     → Ran start state scope assume was now before after f g entries → Ended start state scope assume was now before after f g (Ok outcome)
 Ended-ok start state scope assume was now before after f g entries outcome ran = (entries, ran.learns, (ran.got, ran.faults))
 
 -- or with one
-pub Ended-fault : (start state new : State) (scope assume : List ℕ) (was now : Budget) (before mid after : Option LogContent) (f g h : ℕ) (entries : List Learned) (x : SolveFault)
-    → Ran start state scope assume was now before mid f g entries → (IsRefuted state scope assume → ⊥) → now.used < now.limit → FailsOn state new scope mid after g h x
+pub Ended-fault : (start state new : State) (scope assume : List ℕ) (was now : Budget) (before mid after : Option LogContent) (f g h : ℕ)
+    (entries : List Learned) (x : SolveFault)
+    → Ran start state scope assume was now before mid f g entries → (IsRefuted state scope assume → ⊥) → now.used < now.limit
+    → FailsOn state new scope mid after g h x
     → Ended start new scope assume was now before after f h (Err x)
 Ended-fault start state new scope assume was now before mid after f g h entries fault.Log ran unrefuted below (e, fresh, same, torn, rises) = (
   entries,

@@ -22,11 +22,13 @@ use Rattle.cdcl_core.specs.Store.{AreCounted}
 use Rattle.cdcl_core.specs.Seeking.{IsSought, Seeks, Begins}
 
 -- the units of the focus, told by the clauses of another focus that is the same
-UnitsStand-focus : (f g : List ℕ) (arena : Arena) (entries : List TrailEntry) → f ≡ g → UnitsStand (LiveAmong f arena) entries → UnitsStand (LiveAmong g arena) entries
+UnitsStand-focus : (f g : List ℕ) (arena : Arena) (entries : List TrailEntry) → f ≡ g → UnitsStand (LiveAmong f arena) entries
+    → UnitsStand (LiveAmong g arena) entries
 UnitsStand-focus f g arena entries e h = subst (λ (vs : List ℕ). UnitsStand (LiveAmong vs arena) entries) e h
 
 -- the units of a search stand on level 0
-pub Seeks-start : (assume : List ℕ) (trail : State) (arena : Arena) → Begins trail arena → UnitsStand (Searched trail arena) trail.entries → AreCounted trail arena.live
+pub Seeks-start : (assume : List ℕ) (trail : State) (arena : Arena) → Begins trail arena → UnitsStand (Searched trail arena) trail.entries
+    → AreCounted trail arena.live
     → All (λ v. v < trail.variables) trail.focus → IsInside (is_in trail.focus) assume → Seeks assume trail arena 0
 Seeks-start assume trail arena b stand counted in_range inside = record {
   searching = b.searching;
@@ -41,7 +43,8 @@ Seeks-start assume trail arena b stand counted in_range inside = record {
 }
 
 -- propagation keeps it
-pub Seeks-grows : (assume : List ℕ) (old new : State) (arena : Arena) (assumed : ℕ) → Seeks assume old arena assumed → Grows old new → Fits new arena → Seeks assume new arena assumed
+pub Seeks-grows : (assume : List ℕ) (old new : State) (arena : Arena) (assumed : ℕ) → Seeks assume old arena assumed → Grows old new → Fits new arena
+    → Seeks assume new arena assumed
 Seeks-grows assume old new arena assumed s grows fits =
     let level = grows.level in
     let reached = s.reached in record {
@@ -52,7 +55,8 @@ Seeks-grows assume old new arena assumed s grows fits =
       in_range = subst (λ (n : ℕ). All (λ v. v < n) new.focus) (sym grows.variables) (subst (All (λ v. v < old.variables)) (sym grows.focus) s.in_range);
       inside = subst (λ (vs : List ℕ). IsInside (is_in vs) assume) (sym grows.focus) s.inside;
       reached = omega (arith, level, reached);
-      given = subst (λ (es : List TrailEntry). AreAssumed (Contains assume) es assumed) (sym grows.added.1) (AreAssumed-append (Contains assume) old.entries grows.added.0 assumed grows.added.3 s.given);
+      given = subst (λ (es : List TrailEntry). AreAssumed (Contains assume) es assumed) (sym grows.added.1)
+          (AreAssumed-append (Contains assume) old.entries grows.added.0 assumed grows.added.3 s.given);
       sought = subst (AreAssumed (IsSought assume arena) new.entries) (sym level)
           (subst (λ (es : List TrailEntry). AreAssumed (IsSought assume arena) es old.level) (sym grows.added.1)
           (AreAssumed-append (IsSought assume arena) old.entries grows.added.0 old.level grows.added.3 s.sought));
@@ -66,7 +70,8 @@ pub Seeks-closed : (assume : List ℕ) (trail : State) (arena : Arena) (assumed 
 Seeks-closed assume trail arena assumed s complete = closed_search trail arena s.searching complete s.stand
 
 -- an assumption that isn't true is met only where each guess is one
-pub none_guessed : (assume : List ℕ) (trail : State) (arena : Arena) (assumed l : ℕ) → Seeks assume trail arena assumed → Contains assume l → (IsTrueOn trail.entries l → ⊥) → assumed ≡ trail.level
+pub none_guessed : (assume : List ℕ) (trail : State) (arena : Arena) (assumed l : ℕ) → Seeks assume trail arena assumed → Contains assume l
+    → (IsTrueOn trail.entries l → ⊥) → assumed ≡ trail.level
 none_guessed assume trail arena assumed l s m open_ =
     elim (cases_lt assumed trail.level) [
       | inl below ↦ absurd (open_ (known_true trail.entries assumed l (s.known below l m)))
@@ -74,7 +79,8 @@ none_guessed assume trail arena assumed l s m open_ =
     ]
 
 -- the next assumption is decided
-pub Seeks-assume : (assume : List ℕ) (trail : State) (arena : Arena) (assumed l : ℕ) → Seeks assume trail arena assumed → IsComplete trail arena → Contains assume l → assumed ≡ trail.level
+pub Seeks-assume : (assume : List ℕ) (trail : State) (arena : Arena) (assumed l : ℕ) → Seeks assume trail arena assumed → IsComplete trail arena
+    → Contains assume l → assumed ≡ trail.level
     → Fits (with_entry trail (trail.level + 1) l None) arena → Seeks assume (with_entry trail (trail.level + 1) l None) arena (trail.level + 1)
 Seeks-assume assume trail arena assumed l s complete m top fits =
     let e : TrailEntry = record { literal = l; level = trail.level + 1; reason = None } in record {
@@ -84,23 +90,28 @@ Seeks-assume assume trail arena assumed l s complete m top fits =
       in_range = s.in_range;
       inside = s.inside;
       reached = omega arith;
-      given = AreAssumed-assume (Contains assume) trail.entries e trail.level s.searching.searched.up_to m (subst (AreAssumed (Contains assume) trail.entries) top s.given);
+      given = AreAssumed-assume (Contains assume) trail.entries e trail.level s.searching.searched.up_to m
+          (subst (AreAssumed (Contains assume) trail.entries) top s.given);
       sought = AreAssumed-assume (IsSought assume arena) trail.entries e trail.level s.searching.searched.up_to (inl m) s.sought;
       known = λ below. absurd (omega (arith, below));
     }
 
 -- where each assumption is true, they are known up to the level of the last one
-all_known : (assume : List ℕ) (trail : State) (arena : Arena) (assumed : ℕ) → Seeks assume trail arena assumed → ((l : ℕ) → Contains assume l → IsTrueOn trail.entries l)
+all_known : (assume : List ℕ) (trail : State) (arena : Arena) (assumed : ℕ) → Seeks assume trail arena assumed
+    → ((l : ℕ) → Contains assume l → IsTrueOn trail.entries l)
     → (l : ℕ) → Contains assume l → IsKnownAt trail.entries assumed l
 all_known assume trail arena assumed s all l m =
     elim (cases_lt assumed trail.level) [
       | inl below ↦ s.known below l m
-      | inr high ↦ known_later trail.entries trail.level assumed l (omega (arith, high)) (true_known trail.entries trail.level l s.searching.searched.up_to (all l m))
+      | inr high ↦ known_later trail.entries trail.level assumed l (omega (arith, high))
+          (true_known trail.entries trail.level l s.searching.searched.up_to (all l m))
     ]
 
 -- another literal is guessed, where they all are true
-pub Seeks-guess : (assume : List ℕ) (trail : State) (arena : Arena) (assumed l : ℕ) → Seeks assume trail arena assumed → IsComplete trail arena → ((k : ℕ) → Contains assume k → IsTrueOn trail.entries k)
-    → is_in trail.focus (variable_of l) ≡ true → IsSought assume arena l → Fits (with_entry trail (trail.level + 1) l None) arena → Seeks assume (with_entry trail (trail.level + 1) l None) arena assumed
+pub Seeks-guess : (assume : List ℕ) (trail : State) (arena : Arena) (assumed l : ℕ) → Seeks assume trail arena assumed → IsComplete trail arena
+    → ((k : ℕ) → Contains assume k → IsTrueOn trail.entries k)
+    → is_in trail.focus (variable_of l) ≡ true → IsSought assume arena l → Fits (with_entry trail (trail.level + 1) l None) arena
+    → Seeks assume (with_entry trail (trail.level + 1) l None) arena assumed
 Seeks-guess assume trail arena assumed l s complete all here sought fits =
     let e : TrailEntry = record { literal = l; level = trail.level + 1; reason = None } in
     let reached = s.reached in record {

@@ -10,7 +10,8 @@ use Rattle.cdcl_core.specs.Changes.{Becomes, live_in}
 abbrev pub without_values : StoreState → State
 without_values parts = record { variables = parts.arena.variables; live = live_in parts; next = parts.next; values = None }
 
-pub same_state : (v w m n : ℕ) (xs ys : List LiveClause) → v ≡ w → xs ≡ ys → m ≡ n → record { variables = v; live = xs; next = m; values = None } ≡ (let s : State = record { variables = w; live = ys; next = n; values = None } in s)
+pub same_state : (v w m n : ℕ) (xs ys : List LiveClause) → v ≡ w → xs ≡ ys → m ≡ n
+    → record { variables = v; live = xs; next = m; values = None } ≡ (let s : State = record { variables = w; live = ys; next = n; values = None } in s)
 same_state v w m n xs ys e f g = cc
 
 pub without_values-becomes : (old new : StoreState) (live : List LiveClause) (number : ℕ) → Becomes old new live number

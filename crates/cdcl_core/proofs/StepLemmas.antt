@@ -15,14 +15,17 @@ use Rattle.cdcl_core.proofs.Seeks.{none_guessed, Seeks-assume, Seeks-guess, is_i
 use Rattle.cdcl_core.proofs.Models.{counted_sought, IsModelOn-assigned}
 
 -- an assumption's variable is in range
-pub literal_in_range : (assume : List ℕ) (trail : State) (arena : Arena) (assumed l : ℕ) → Seeks assume trail arena assumed → Contains assume l → variable_of l < trail.variables
-literal_in_range assume trail arena assumed l s m = All-contains (λ v. v < trail.variables) trail.focus (variable_of l) s.in_range (contains_in trail.focus (variable_of l) (s.inside l m))
+pub literal_in_range : (assume : List ℕ) (trail : State) (arena : Arena) (assumed l : ℕ) → Seeks assume trail arena assumed → Contains assume l
+    → variable_of l < trail.variables
+literal_in_range assume trail arena assumed l s m = All-contains (λ v. v < trail.variables) trail.focus (variable_of l) s.in_range
+    (contains_in trail.focus (variable_of l) (s.inside l m))
 
 pub assume_in_range : (assume : List ℕ) (trail : State) (arena : Arena) (assumed : ℕ) → Seeks assume trail arena assumed → AreBelow trail.variables assume
 assume_in_range assume trail arena assumed s k d p = literal_in_range assume trail arena assumed (get_or assume k d) s (Contains-get_or assume k d p)
 
 -- an assumption is false
-pub step_refutes : (assume : List ℕ) (trail : State) (arena : Arena) (assumed l : ℕ) → Seeks assume trail arena assumed → Contains assume l → IsTrueOn trail.entries (opposite_of l)
+pub step_refutes : (assume : List ℕ) (trail : State) (arena : Arena) (assumed l : ℕ) → Seeks assume trail arena assumed → Contains assume l
+    → IsTrueOn trail.entries (opposite_of l)
     → Refutes (Searched trail arena) (Contains assume)
 step_refutes assume trail arena assumed l s m off =
     let top = none_guessed assume trail arena assumed l s m (λ on. s.searching.fits.consistent l on off) in
@@ -34,7 +37,8 @@ longer old new level l is =
     omega (arith, one)
 
 -- one is decided
-pub step_decides : (assume : List ℕ) (trail new : State) (arena : Arena) (assumed l level : ℕ) → Seeks assume trail arena assumed → IsComplete trail arena → Contains assume l
+pub step_decides : (assume : List ℕ) (trail new : State) (arena : Arena) (assumed l level : ℕ) → Seeks assume trail arena assumed → IsComplete trail arena
+    → Contains assume l
     → IsUnassigned trail.entries (variable_of l) → new ≡ with_entry trail (trail.level + 1) l None → Fits new arena → level ≡ new.level
     → Seeks assume new arena level × (length trail.entries < length new.entries)
 step_decides assume trail new arena assumed l level s complete m free is fits at =
@@ -46,17 +50,20 @@ step_decides assume trail new arena assumed l level s complete m free is fits at
     )
 
 -- a literal is guessed
-pub step_guesses : (assume : List ℕ) (trail new : State) (arena : Arena) (assumed : ℕ) → Seeks assume trail arena assumed → IsComplete trail arena → ((l : ℕ) → Contains assume l → IsTrueOn trail.entries l)
+pub step_guesses : (assume : List ℕ) (trail new : State) (arena : Arena) (assumed : ℕ) → Seeks assume trail arena assumed → IsComplete trail arena
+    → ((l : ℕ) → Contains assume l → IsTrueOn trail.entries l)
     → Guesses trail new true → Fits new arena → Seeks assume new arena assumed × (length trail.entries < length new.entries)
 step_guesses assume trail new arena assumed s complete all (l, m, counted, free, is) fits = (
   subst (λ (t : State). Seeks assume t arena assumed) (sym is)
-      (Seeks-guess assume trail arena assumed l s complete all (is_in-contains trail.focus (variable_of l) m) (counted_sought assume trail arena l s.counted counted)
+      (Seeks-guess assume trail arena assumed l s complete all (is_in-contains trail.focus (variable_of l) m)
+      (counted_sought assume trail arena l s.counted counted)
       (subst (λ (t : State). Fits t arena) is fits)),
   longer trail new (trail.level + 1) l is,
 )
 
 -- nothing is left to guess
-pub step_models : (assume : List ℕ) (trail new : State) (arena : Arena) (assumed : ℕ) → Seeks assume trail arena assumed → IsComplete trail arena → ((l : ℕ) → Contains assume l → IsTrueOn trail.entries l)
+pub step_models : (assume : List ℕ) (trail new : State) (arena : Arena) (assumed : ℕ) → Seeks assume trail arena assumed → IsComplete trail arena
+    → ((l : ℕ) → Contains assume l → IsTrueOn trail.entries l)
     → Guesses trail new false → IsModelOn assume new arena
 step_models assume trail new arena assumed s complete all (same, assigned) =
     subst (λ (t : State). IsModelOn assume t arena) (sym same) (IsModelOn-assigned assume trail arena assumed s complete all assigned)

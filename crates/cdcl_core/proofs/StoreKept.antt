@@ -28,7 +28,8 @@ unmarked label = step label.goes
     step false e = refl
 
 -- after clauses were dropped and their labels taken out
-pub IsKept-dropped : (which : Selection) (p : StoreState) (arena : Arena) (marked : List Label) (trail : Trail) → IsKept p → Drops which p.labels p.arena.live marked arena.live
+pub IsKept-dropped : (which : Selection) (p : StoreState) (arena : Arena) (marked : List Label) (trail : Trail) → IsKept p
+    → Drops which p.labels p.arena.live marked arena.live
     → arena.variables ≡ p.arena.variables → AreCounted trail arena.live → AreProper arena.variables arena.live → OnlyCounts p.trail trail
     → IsKept (record { arena = arena; labels = filter stays marked; trail = trail; next = p.next })
 IsKept-dropped which p arena marked trail kept drops variables counted proper only = record {
@@ -38,12 +39,15 @@ IsKept-dropped which p arena marked trail kept drops variables counted proper on
   stay = All-weaker (λ label. stays label ≡ true) (λ label. label.goes ≡ false) unmarked (filter stays marked) (filter_passes stays marked);
   proper = proper;
   counted = counted;
-  numbered = subst (λ (live : List LiveClause). AreNumbered p.next (numbers_in live)) (sym drops.shown) (AreNumbered-filter p.next (λ entry. not (is_taken which entry)) (live_in p) kept.numbered);
+  numbered = subst (λ (live : List LiveClause). AreNumbered p.next (numbers_in live)) (sym drops.shown)
+      (AreNumbered-filter p.next (λ entry. not (is_taken which entry)) (live_in p) kept.numbered);
 }
 
-pub Becomes-dropped : (which : Selection) (p : StoreState) (arena : Arena) (marked : List Label) (trail : Trail) → Drops which p.labels p.arena.live marked arena.live
+pub Becomes-dropped : (which : Selection) (p : StoreState) (arena : Arena) (marked : List Label) (trail : Trail)
+    → Drops which p.labels p.arena.live marked arena.live
     → arena.variables ≡ p.arena.variables → OnlyCounts p.trail trail
-    → Becomes p (record { arena = arena; labels = filter stays marked; trail = trail; next = p.next }) (filter (λ entry. not (is_taken which entry)) (live_in p)) p.next
+    → Becomes p (record { arena = arena; labels = filter stays marked; trail = trail; next = p.next })
+    (filter (λ entry. not (is_taken which entry)) (live_in p)) p.next
 Becomes-dropped which p arena marked trail drops variables only = record { variables = variables; clauses = drops.shown; next = refl; only_counts = only }
 
 -- new references
@@ -61,18 +65,22 @@ AreProper-renamed n f (h ∷ hs) proper =
     All-cons (λ held. IsProper n held.literals) (renamed f h) (map (renamed f) hs) (All-head (λ held. IsProper n held.literals) h hs proper)
     (AreProper-renamed n f hs (All-tail (λ held. IsProper n held.literals) h hs proper))
 
-pub IsKept-renamed : (f : ℕ → ℕ) (p : StoreState) (arena : Arena) → IsKept p → Holds p.arena arena (map (renamed f) p.arena.live) → IsKept (record p { arena = arena })
+pub IsKept-renamed : (f : ℕ → ℕ) (p : StoreState) (arena : Arena) → IsKept p → Holds p.arena arena (map (renamed f) p.arena.live)
+    → IsKept (record p { arena = arena })
 IsKept-renamed f p arena kept holds = record {
   few = (let few = kept.few in let same = holds.variables in omega (arith, few, same));
   same_variables = kept.same_variables ∙ sym holds.variables;
   parallel = kept.parallel ∙ sym (ap length holds.live ∙ length-map p.arena.live (renamed f));
   stay = kept.stay;
-  proper = subst (λ (n : ℕ). AreProper n arena.live) (sym holds.variables) (subst (AreProper p.arena.variables) (sym holds.live) (AreProper-renamed p.arena.variables f p.arena.live kept.proper));
+  proper = subst (λ (n : ℕ). AreProper n arena.live) (sym holds.variables)
+      (subst (AreProper p.arena.variables) (sym holds.live) (AreProper-renamed p.arena.variables f p.arena.live kept.proper));
   counted = λ v. kept.counted v ∙ sym (ap (occurrences v) holds.live ∙ occurrences-renamed v f p.arena.live);
-  numbered = subst (λ (live : List LiveClause). AreNumbered p.next (numbers_in live)) (sym (ap (labelled p.labels) holds.live ∙ labelled-renamed f p.labels p.arena.live)) kept.numbered;
+  numbered = subst (λ (live : List LiveClause). AreNumbered p.next (numbers_in live))
+      (sym (ap (labelled p.labels) holds.live ∙ labelled-renamed f p.labels p.arena.live)) kept.numbered;
 }
 
-pub Becomes-renamed : (f : ℕ → ℕ) (p : StoreState) (arena : Arena) → Holds p.arena arena (map (renamed f) p.arena.live) → Becomes p (record p { arena = arena }) (live_in p) p.next
+pub Becomes-renamed : (f : ℕ → ℕ) (p : StoreState) (arena : Arena) → Holds p.arena arena (map (renamed f) p.arena.live)
+    → Becomes p (record p { arena = arena }) (live_in p) p.next
 Becomes-renamed f p arena holds = record {
   variables = holds.variables;
   clauses = ap (labelled p.labels) holds.live ∙ labelled-renamed f p.labels p.arena.live;
@@ -96,7 +104,8 @@ pub Becomes-same : (p : StoreState) (arena : Arena) → Holds p.arena arena p.ar
 Becomes-same p arena holds = record { variables = holds.variables; clauses = ap (labelled p.labels) holds.live; next = refl; only_counts = refl }
 
 -- one more clause, with the label of a given one
-pub IsKept-given : (p : StoreState) (arena : Arena) (trail : Trail) (r : ℕ) (literals : List ℕ) → IsKept p → Holds p.arena arena (with_clause p.arena.live r literals)
+pub IsKept-given : (p : StoreState) (arena : Arena) (trail : Trail) (r : ℕ) (literals : List ℕ) → IsKept p
+    → Holds p.arena arena (with_clause p.arena.live r literals)
     → IsProper p.arena.variables literals → AreCounted trail arena.live → OnlyCounts p.trail trail
     → IsKept (record { arena = arena; labels = p.labels ++ record { number = None; goes = false } ∷ []; trail = trail; next = p.next })
 IsKept-given p arena trail r literals kept holds proper counted only =
@@ -116,7 +125,8 @@ IsKept-given p arena trail r literals kept holds proper counted only =
           (subst (AreNumbered p.next) (sym (numbers_in-push (live_in p) entry ∙ append-nil (numbers_in (live_in p)))) kept.numbered);
     }
 
-pub Becomes-given : (p : StoreState) (arena : Arena) (trail : Trail) (r : ℕ) (literals : List ℕ) → IsKept p → Holds p.arena arena (with_clause p.arena.live r literals) → OnlyCounts p.trail trail
+pub Becomes-given : (p : StoreState) (arena : Arena) (trail : Trail) (r : ℕ) (literals : List ℕ) → IsKept p
+    → Holds p.arena arena (with_clause p.arena.live r literals) → OnlyCounts p.trail trail
     → Becomes p (record { arena = arena; labels = p.labels ++ record { number = None; goes = false } ∷ []; trail = trail; next = p.next })
     (live_in p ++ record { number = None; literals = literals } ∷ []) p.next
 Becomes-given p arena trail r literals kept holds only =

@@ -1,5 +1,6 @@
 -- Clauses that go, one after another, with their labels.
-use Rattle.std.proofs.Common.{◌≡◌, ℕ, ◌<◌, ◌≤◌, ◌+◌, List, [], ◌∷◌, ◌++◌, length, get_or, set, All, Contains, Bool, true, false, cond, not, Option, Some, None, refl, sym, subst, ap, ◌∙◌, arith, append_assoc}
+use Rattle.std.proofs.Common.{◌≡◌, ℕ, ◌<◌, ◌≤◌, ◌+◌, List, [], ◌∷◌, ◌++◌, length, get_or, set, All, Contains, Bool, true, false, cond, not, Option, Some}
+use Rattle.std.proofs.Common.{None, refl, sym, subst, ap, ◌∙◌, arith, append_assoc}
 use Rattle.std.specs.List.{filter}
 use Rattle.std.proofs.lemmas.List.{append-nil, length_push, length-append}
 use Rattle.std.proofs.lemmas.List.Elements.{All-nil, All-push, All-weaker, All-tail, filter-append, Contains-append_right}
@@ -19,7 +20,8 @@ abbrev pub is_kept : Selection → LiveClause → Bool
 is_kept which entry = not (is_taken which entry)
 
 -- what a sweep keeps: some labels and clauses are done, and the rest is as it was
-pub record SweepHolds (which : Selection) (all_labels : List Label) (all_live : List HeldClause) (labels : List Label) (live : List HeldClause) (place : ℕ) (at : Option ClauseRef) : Type 0 where
+pub record SweepHolds (which : Selection) (all_labels : List Label) (all_live : List HeldClause) (labels : List Label) (live : List HeldClause) (place : ℕ)
+    (at : Option ClauseRef) : Type 0 where
   pub done_labels : List Label
   pub done_live : List HeldClause
   pub rest_labels : List Label
@@ -68,7 +70,8 @@ set-middle [] y z ys = refl
 set-middle {X} (x ∷ xs) y z ys = ap (λ (l : List X). x ∷ l) (set-middle xs y z ys)
 
 -- a list as long as another one with a first item has a first item too
-head_of : (labels : List Label) (held : HeldClause) (live : List HeldClause) → length labels ≡ length (held ∷ live) → (label : Label) × (others : List Label) × (labels ≡ label ∷ others)
+head_of : (labels : List Label) (held : HeldClause) (live : List HeldClause) → length labels ≡ length (held ∷ live) → (label : Label) × (others : List Label)
+    × (labels ≡ label ∷ others)
 head_of [] held live e = absurd (omega arith)
 head_of (n ∷ ns) held live e = (n, ns, refl)
 
@@ -76,13 +79,16 @@ push_assoc : {X : Type 0} (xs : List X) (x : X) (ys : List X) → (xs ++ x ∷ [
 push_assoc xs x ys = append_assoc xs (x ∷ []) ys
 
 -- one more clause, that stays or goes
-step_parts : (which : Selection) (all_labels : List Label) (all_live : List HeldClause) (dl rl : List Label) (dh rh : List HeldClause) (label : Label) (held : HeldClause) (low : ℕ) (next : Option ClauseRef) (new_live : List HeldClause) (gone : Bool)
+step_parts : (which : Selection) (all_labels : List Label) (all_live : List HeldClause) (dl rl : List Label) (dh rh : List HeldClause) (label : Label)
+    (held : HeldClause) (low : ℕ) (next : Option ClauseRef) (new_live : List HeldClause) (gone : Bool)
     → length rl ≡ length rh → length (filter stays dl) ≡ length dh
-    → labelled (filter stays dl) dh ++ filter (is_kept which) (record { number = label.number; literals = held.literals } ∷ labelled rl rh) ≡ filter (is_kept which) (labelled all_labels all_live)
+    → labelled (filter stays dl) dh ++ filter (is_kept which) (record { number = label.number; literals = held.literals } ∷ labelled rl rh)
+    ≡ filter (is_kept which) (labelled all_labels all_live)
     → All (λ l. l.goes ≡ false) rl → All (λ h. h.reference < low) dh → low ≤ held.reference → RisesFrom (held.reference + 1) rh
     → IsFirstFrom (dh ++ held ∷ rh) (held.reference + 1) next → DropsIf which label.number held.reference (dh ++ held ∷ rh) new_live gone
     → SweepHolds which all_labels all_live (dl ++ record label { goes = gone } ∷ rl) new_live (length dl + 1) next
-step_parts which all_labels all_live dl rl dh rh label held low next new_live false rest_parallel done_parallel shown stay below here rises first (taken, same) =
+step_parts which all_labels all_live dl rl dh rh label held low next new_live false rest_parallel done_parallel shown stay below here rises first
+    (taken, same) =
     let x : LiveClause = record { number = label.number; literals = held.literals } in
     let new_label : Label = record label { goes = false } in
     let is = taken held.literals (Contains-append_right dh (held ∷ rh) held (Contains-head held rh held refl)) in
@@ -104,7 +110,8 @@ step_parts which all_labels all_live dl rl dh rh label held low next new_live fa
       shown = ap (λ (ls : List Label). labelled ls (dh ++ held ∷ []) ++ filter (is_kept which) (labelled rl rh)) done
           ∙ (ap (λ (ls : List LiveClause). ls ++ filter (is_kept which) (labelled rl rh)) (labelled-push (filter stays dl) dh new_label held done_parallel)
           ∙ (push_assoc (labelled (filter stays dl) dh) x (filter (is_kept which) (labelled rl rh))
-          ∙ (ap (λ (b : Bool). labelled (filter stays dl) dh ++ cond (not b) (x ∷ filter (is_kept which) (labelled rl rh)) (filter (is_kept which) (labelled rl rh))) (sym is)
+          ∙ (ap (λ (b : Bool). labelled (filter stays dl) dh ++ cond (not b) (x ∷ filter (is_kept which) (labelled rl rh))
+          (filter (is_kept which) (labelled rl rh))) (sym is)
           ∙ shown)));
       stay = stay;
       below = below_more;
@@ -132,7 +139,8 @@ step_parts which all_labels all_live dl rl dh rh label held low next new_live tr
       rest_parallel = rest_parallel;
       done_parallel = ap length done ∙ done_parallel;
       shown = ap (λ (ls : List Label). labelled ls dh ++ filter (is_kept which) (labelled rl rh)) done
-          ∙ (ap (λ (b : Bool). labelled (filter stays dl) dh ++ cond (not b) (x ∷ filter (is_kept which) (labelled rl rh)) (filter (is_kept which) (labelled rl rh))) (sym is)
+          ∙ (ap (λ (b : Bool). labelled (filter stays dl) dh ++ cond (not b) (x ∷ filter (is_kept which) (labelled rl rh))
+          (filter (is_kept which) (labelled rl rh))) (sym is)
           ∙ shown);
       stay = stay;
       below = below_more;
@@ -142,13 +150,15 @@ step_parts which all_labels all_live dl rl dh rh label held low next new_live tr
     }
 
 -- the same, by the place of the label
-pub SweepHolds-step : (which : Selection) (all_labels : List Label) (all_live : List HeldClause) (labels : List Label) (live new_live : List HeldClause) (place : ℕ) (clause : ClauseRef) (next : Option ClauseRef) (d : Label) (gone : Bool)
+pub SweepHolds-step : (which : Selection) (all_labels : List Label) (all_live : List HeldClause) (labels : List Label) (live new_live : List HeldClause)
+    (place : ℕ) (clause : ClauseRef) (next : Option ClauseRef) (d : Label) (gone : Bool)
     → SweepHolds which all_labels all_live labels live place (Some clause) → IsFirstFrom live (clause.place + 1) next
     → DropsIf which (get_or labels place d).number clause.place live new_live gone
     → SweepHolds which all_labels all_live (set labels place (record (get_or labels place d) { goes = gone })) new_live (place + 1) next
 SweepHolds-step which all_labels all_live labels live new_live place clause next d gone h first dropped = by_parts h.starts
   where
-    by_parts : Starts h.rest_live (Some clause) → SweepHolds which all_labels all_live (set labels place (record (get_or labels place d) { goes = gone })) new_live (place + 1) next
+    by_parts : Starts h.rest_live (Some clause) → SweepHolds which all_labels all_live (set labels place (record (get_or labels place d) { goes = gone }))
+        new_live (place + 1) next
     by_parts (held, rh, live_is, same) =
         let heads = head_of h.rest_labels held rh (h.rest_parallel ∙ ap length live_is) in
         let label = heads.0 in
@@ -164,22 +174,27 @@ SweepHolds-step which all_labels all_live labels live new_live place clause next
         ∙ (ap (λ (n : ℕ). set (h.done_labels ++ label ∷ rl) n new_label) h.place_is ∙ set-middle h.done_labels label new_label rl)) in
         let rises : RisesFrom h.low (held ∷ rh) = subst (RisesFrom h.low) live_is h.rises in
         let parallel = ap length (sym heads.2) ∙ (h.rest_parallel ∙ ap length live_is) in
-        let shown = subst (λ (hs : List HeldClause). labelled (filter stays h.done_labels) h.done_live ++ filter (is_kept which) (labelled (label ∷ rl) hs) ≡ filter (is_kept which) (labelled all_labels all_live)) live_is
-        (subst (λ (ls : List Label). labelled (filter stays h.done_labels) h.done_live ++ filter (is_kept which) (labelled ls h.rest_live) ≡ filter (is_kept which) (labelled all_labels all_live)) heads.2 h.shown) in
+        let shown = subst (λ (hs : List HeldClause). labelled (filter stays h.done_labels) h.done_live ++ filter (is_kept which) (labelled (label ∷ rl) hs)
+        ≡ filter (is_kept which) (labelled all_labels all_live)) live_is
+        (subst (λ (ls : List Label). labelled (filter stays h.done_labels) h.done_live ++ filter (is_kept which) (labelled ls h.rest_live)
+        ≡ filter (is_kept which) (labelled all_labels all_live)) heads.2 h.shown) in
         let stay = All-tail (λ (l : Label). l.goes ≡ false) label rl (subst (All (λ (l : Label). l.goes ≡ false)) heads.2 h.stay) in
         let first_now : IsFirstFrom (h.done_live ++ held ∷ rh) (held.reference + 1) next =
-        subst (λ (n : ℕ). IsFirstFrom (h.done_live ++ held ∷ rh) (n + 1) next) (sym same) (subst (λ (hs : List HeldClause). IsFirstFrom hs (clause.place + 1) next) live_are first) in
+        subst (λ (n : ℕ). IsFirstFrom (h.done_live ++ held ∷ rh) (n + 1) next) (sym same)
+        (subst (λ (hs : List HeldClause). IsFirstFrom hs (clause.place + 1) next) live_are first) in
         let dropped_now : DropsIf which label.number held.reference (h.done_live ++ held ∷ rh) new_live gone =
         subst (λ (n : ℕ). DropsIf which label.number n (h.done_live ++ held ∷ rh) new_live gone) (sym same)
         (subst (λ (hs : List HeldClause). DropsIf which label.number clause.place hs new_live gone) live_are
         (subst (λ (l : Label). DropsIf which l.number clause.place live new_live gone) read dropped)) in
-        subst (λ (n : ℕ). SweepHolds which all_labels all_live (set labels place (record (get_or labels place d) { goes = gone })) new_live (n + 1) next) (sym h.place_is)
+        subst (λ (n : ℕ). SweepHolds which all_labels all_live (set labels place (record (get_or labels place d) { goes = gone })) new_live (n + 1) next)
+        (sym h.place_is)
         (subst (λ (ls : List Label). SweepHolds which all_labels all_live ls new_live (length h.done_labels + 1) next) (sym written)
         (step_parts which all_labels all_live h.done_labels rl h.done_live rh label held h.low next new_live gone
         (omega (arith, parallel)) h.done_parallel shown stay h.below rises.0 rises.1 first_now dropped_now))
 
 -- the place is that of a label
-pub SweepHolds-within : (which : Selection) (all_labels : List Label) (all_live : List HeldClause) (labels : List Label) (live : List HeldClause) (place : ℕ) (clause : ClauseRef)
+pub SweepHolds-within : (which : Selection) (all_labels : List Label) (all_live : List HeldClause) (labels : List Label) (live : List HeldClause) (place : ℕ)
+    (clause : ClauseRef)
     → SweepHolds which all_labels all_live labels live place (Some clause) → place < length labels
 SweepHolds-within which all_labels all_live labels live place clause h =
     let long = ap length h.labels_are ∙ length-append h.done_labels h.rest_labels in
@@ -194,10 +209,12 @@ SweepHolds-all which all_labels all_live labels live place h =
     let no_labels : h.rest_labels ≡ [] = none h.rest_labels (h.rest_parallel ∙ ap length no_live) in
     let labels_are : labels ≡ h.done_labels = h.labels_are ∙ (ap (λ (ls : List Label). h.done_labels ++ ls) no_labels ∙ append-nil h.done_labels) in
     let live_are : live ≡ h.done_live = h.live_are ∙ (ap (λ (hs : List HeldClause). h.done_live ++ hs) no_live ∙ append-nil h.done_live) in
-    let rest : filter (is_kept which) (labelled h.rest_labels h.rest_live) ≡ [] = ap (λ (ls : List Label). filter (is_kept which) (labelled ls h.rest_live)) no_labels in
+    let rest : filter (is_kept which) (labelled h.rest_labels h.rest_live) ≡ [] =
+    ap (λ (ls : List Label). filter (is_kept which) (labelled ls h.rest_live)) no_labels in
     record {
       shown = ap (λ (ls : List Label). labelled (filter stays ls) live) labels_are ∙ (ap (labelled (filter stays h.done_labels)) live_are
-          ∙ (sym (ap (λ (xs : List LiveClause). labelled (filter stays h.done_labels) h.done_live ++ xs) rest ∙ append-nil (labelled (filter stays h.done_labels) h.done_live)) ∙ h.shown));
+          ∙ (sym (ap (λ (xs : List LiveClause). labelled (filter stays h.done_labels) h.done_live ++ xs) rest
+          ∙ append-nil (labelled (filter stays h.done_labels) h.done_live)) ∙ h.shown));
       parallel = ap (λ (ls : List Label). length (filter stays ls)) labels_are ∙ (h.done_parallel ∙ sym (ap length live_are));
     }
   where
@@ -206,7 +223,8 @@ SweepHolds-all which all_labels all_live labels live place h =
     none (x ∷ xs) e = absurd (omega arith)
 
 -- the clause at hand is live
-pub SweepHolds-live : (which : Selection) (all_labels : List Label) (all_live : List HeldClause) (labels : List Label) (live : List HeldClause) (place : ℕ) (clause : ClauseRef)
+pub SweepHolds-live : (which : Selection) (all_labels : List Label) (all_live : List HeldClause) (labels : List Label) (live : List HeldClause) (place : ℕ)
+    (clause : ClauseRef)
     → SweepHolds which all_labels all_live labels live place (Some clause) → (held : HeldClause) × Contains live held × (held.reference ≡ clause.place)
 SweepHolds-live which all_labels all_live labels live place clause h = by_parts h.starts
   where

@@ -1,5 +1,6 @@
 -- The unit clauses of a scope, whose literals are fixed one after another on level 0.
-use Rattle.std.proofs.Common.{◌≡◌, ℕ, ◌<◌, ◌≤◌, ◌+◌, inl, inr, List, [], ◌∷◌, ◌++◌, length, get_or, Contains, Bool, true, false, Option, Some, None, IfSome, refl, sym, subst, ap, ◌∙◌, arith}
+use Rattle.std.proofs.Common.{◌≡◌, ℕ, ◌<◌, ◌≤◌, ◌+◌, inl, inr, List, [], ◌∷◌, ◌++◌, length, get_or, Contains, Bool, true, false, Option, Some, None, IfSome}
+use Rattle.std.proofs.Common.{refl, sym, subst, ap, ◌∙◌, arith}
 use Rattle.std.proofs.lemmas.Bool.{cases_eq}
 use Rattle.std.proofs.lemmas.List.{append-nil, append_assoc}
 use Rattle.std.proofs.lemmas.List.Elements.{All-contains, Contains-push}
@@ -26,7 +27,8 @@ use Rattle.cdcl_core.specs.Seeking.{IsSameQuestion, Fixes, Begins, StandsAt, Ext
 -- what is true on level 0 is known there
 known_at_zero : (trail : State) (arena : Arena) (l : ℕ) → Begins trail arena → IsTrueOn trail.entries l → IsKnownAt trail.entries 0 l
 known_at_zero trail arena l b on =
-    true_known trail.entries 0 l (λ k d p. (let up : (get_or trail.entries k d).level ≤ trail.level = b.searching.searched.up_to k d p in let zero_is = b.on_zero in omega (arith, up, zero_is))) on
+    true_known trail.entries 0 l (λ k d p. (let up : (get_or trail.entries k d).level ≤ trail.level = b.searching.searched.up_to k d p in let zero_is =
+    b.on_zero in omega (arith, up, zero_is))) on
 
 -- the one literal of a clause
 pub one_literal : (clause : List ℕ) → length clause ≡ 1 → clause ≡ get_or clause 0 0 ∷ []
@@ -42,7 +44,8 @@ pub same_unit : (l u : ℕ) → l ∷ [] ≡ u ∷ [] → l ≡ u
 same_unit l u e = ap head_of e
 
 -- a unit clause whose variable is in the focus is one of the search
-pub unit_searched : (trail : State) (arena : Arena) (reference : ℕ) (clause : List ℕ) (l : ℕ) → Names arena reference clause → clause ≡ l ∷ [] → is_in trail.focus (variable_of l) ≡ true
+pub unit_searched : (trail : State) (arena : Arena) (reference : ℕ) (clause : List ℕ) (l : ℕ) → Names arena reference clause → clause ≡ l ∷ []
+    → is_in trail.focus (variable_of l) ≡ true
     → Searched trail arena (l ∷ [])
 unit_searched trail arena reference clause l named is here = (
   subst (LiveIn arena) is (named_live arena reference clause named),
@@ -52,7 +55,8 @@ unit_searched trail arena reference clause l named is here = (
   ],
 )
 
-pub Begins-fixed : (old new : State) (arena : Arena) (l : ℕ) (answer : Bool) → Begins old arena → Searched old arena (l ∷ []) → Fits new arena → Fixes old new l answer → Begins new arena
+pub Begins-fixed : (old new : State) (arena : Arena) (l : ℕ) (answer : Bool) → Begins old arena → Searched old arena (l ∷ []) → Fits new arena
+    → Fixes old new l answer → Begins new arena
 Begins-fixed old new arena l true b unit fits (inl (same, on)) = subst (λ (s : State). Begins s arena) (sym same) b
 Begins-fixed old new arena l true b unit fits (inr (same, free)) =
     subst (λ (s : State). Begins s arena) (sym same) (record {
@@ -81,13 +85,15 @@ known_fixed old new arena l b (inr (same, free)) =
     let low = b.on_zero in
     subst (λ (s : State). IsKnownAt s.entries 0 l) (sym same) (m.0, e, m.1, m.2, (refl, omega (arith, low)))
 
-pub StandsAt-fixed : (old new : State) (arena : Arena) (clause literals : List ℕ) (l : ℕ) (answer : Bool) → Begins old arena → Fixes old new l answer → answer ≡ true → clause ≡ l ∷ [] → literals ≡ clause
+pub StandsAt-fixed : (old new : State) (arena : Arena) (clause literals : List ℕ) (l : ℕ) (answer : Bool) → Begins old arena → Fixes old new l answer
+    → answer ≡ true → clause ≡ l ∷ [] → literals ≡ clause
     → StandsAt new literals
 StandsAt-fixed old new arena clause literals l answer b fixes told is same u unit here =
     subst (λ (y : ℕ). IsKnownAt new.entries 0 y) (same_unit l u (sym (same ∙ is) ∙ unit)) (known_fixed old new arena l b (subst (Fixes old new l) told fixes))
 
 -- where its opposite is true, there is a clash
-pub clash_fixed : (old new : State) (arena : Arena) (l : ℕ) (answer : Bool) → Begins old arena → Searched old arena (l ∷ []) → Fixes old new l answer → answer ≡ false
+pub clash_fixed : (old new : State) (arena : Arena) (l : ℕ) (answer : Bool) → Begins old arena → Searched old arena (l ∷ []) → Fixes old new l answer
+    → answer ≡ false
     → Refutes (Searched new arena) Nothing
 clash_fixed old new arena l true b unit fixes told = absurd (cc)
 clash_fixed old new arena l false b unit (same, on) told =
@@ -111,9 +117,11 @@ pub record UnitsHold (old trail : State) (arena : Arena) (at : Option ClauseRef)
 
 none_before : (trail : State) (arena : Arena) (at : Option ClauseRef) → IsFirstFrom arena.live 0 at → StandBefore trail arena at
 none_before trail arena None first held m before u = absurd (omega (arith, All-contains (λ h. h.reference < 0) arena.live held first m))
-none_before trail arena (Some r) first held m before u = absurd (omega (arith, All-contains (λ h. h.reference < r.place → h.reference < 0) arena.live held first.3 m before))
+none_before trail arena (Some r) first held m before u = absurd
+    (omega (arith, All-contains (λ h. h.reference < r.place → h.reference < 0) arena.live held first.3 m before))
 
-pub UnitsHold-start : (trail : State) (arena : Arena) (at : Option ClauseRef) → Begins trail arena → IsFirstFrom arena.live 0 at → UnitsHold trail trail arena at
+pub UnitsHold-start : (trail : State) (arena : Arena) (at : Option ClauseRef) → Begins trail arena → IsFirstFrom arena.live 0 at
+    → UnitsHold trail trail arena at
 UnitsHold-start trail arena at b first = record {
   begins = b;
   same = record { variables = refl; focus = refl; counts = refl };
@@ -129,14 +137,17 @@ StandsAt-extends old new clause (more, e) focus stands u unit here =
 pub IsSameQuestion-trans : (a b c : State) → IsSameQuestion a b → IsSameQuestion b c → IsSameQuestion a c
 IsSameQuestion-trans a b c g h = record { variables = h.variables ∙ g.variables; focus = h.focus ∙ g.focus; counts = h.counts ∙ g.counts }
 
-pub UnitsHold-next : (old trail new : State) (arena : Arena) (r : ClauseRef) (at : Option ClauseRef) → UnitsHold old trail arena (Some r) → IsFirstFrom arena.live (r.place + 1) at
-    → Begins new arena → IsSameQuestion trail new → Extends trail new → ((literals : List ℕ) → Names arena r.place literals → StandsAt new literals) → UnitsHold old new arena at
+pub UnitsHold-next : (old trail new : State) (arena : Arena) (r : ClauseRef) (at : Option ClauseRef) → UnitsHold old trail arena (Some r)
+    → IsFirstFrom arena.live (r.place + 1) at
+    → Begins new arena → IsSameQuestion trail new → Extends trail new → ((literals : List ℕ) → Names arena r.place literals → StandsAt new literals)
+    → UnitsHold old new arena at
 UnitsHold-next old trail new arena r at h first begins same extends here = record {
   begins = begins;
   same = IsSameQuestion-trans old trail new h.same same;
   stand = λ held m before. elim (cases_eq held.reference r.place) [
     | inl e ↦ here held.literals (subst (λ (n : ℕ). Contains arena.live (record { reference = n; literals = held.literals })) e m)
-    | inr n ↦ StandsAt-extends trail new held.literals extends same.focus (h.stand held m (let close = behind arena r at held first m before in omega (arith, close, n)))
+    | inr n ↦ StandsAt-extends trail new held.literals extends same.focus
+        (h.stand held m (let close = behind arena r at held first m before in omega (arith, close, n)))
   ];
   live = live_first arena (r.place + 1) at first;
 }

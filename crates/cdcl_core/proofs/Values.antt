@@ -41,7 +41,8 @@ value_on-false entries v n = step (value_on entries v) refl
     step false e = refl
 
 -- what a look-up of the present literal answers
-pub value_on-is : (entries : List TrailEntry) (l v : ℕ) (answer : Option Bool) → AreDistinct entries → variable_of l ≡ v → is_present l ≡ true → IsValue entries l answer
+pub value_on-is : (entries : List TrailEntry) (l v : ℕ) (answer : Option Bool) → AreDistinct entries → variable_of l ≡ v → is_present l ≡ true
+    → IsValue entries l answer
     → unwrap_or answer false ≡ value_on entries v
 value_on-is entries l v None distinct is present free =
     sym (value_on-false entries v (λ on. free l refl (subst (IsTrueOn entries) (sym (twice_of l v is present)) on)))

@@ -1,5 +1,6 @@
 -- A walk over live clauses in order.
-use Rattle.std.proofs.Common.{◌≡◌, ℕ, suc, ◌<◌, ◌≤◌, ◌+◌, inl, inr, List, [], ◌∷◌, ◌++◌, Contains, All, Bool, true, false, cond, not, eqb, Option, Some, None, refl, subst, ap, ◌∙◌, arith}
+use Rattle.std.proofs.Common.{◌≡◌, ℕ, suc, ◌<◌, ◌≤◌, ◌+◌, inl, inr, List, [], ◌∷◌, ◌++◌, Contains, All, Bool, true, false, cond, not, eqb, Option, Some, None}
+use Rattle.std.proofs.Common.{refl, subst, ap, ◌∙◌, arith}
 use Rattle.std.proofs.lemmas.Bool.{ne_eqb, eq-eqb}
 use Rattle.std.proofs.lemmas.List.Elements.{All-contains, Contains-append_cases, Contains-append_right, All-head, All-tail}
 use Rattle.clause_meaning.proofs.Members.{Contains-nil, Contains-cons_cases, Contains-head}
@@ -44,9 +45,11 @@ Starts-behind before [] low (Some r) below rises (up, small, (k, x, p, is, same)
       | inr m ↦ absurd (Contains-nil x m)
     ]
 Starts-behind before (h ∷ hs) low None below (here, rest) first =
-    absurd (let less = All-contains (λ (x : HeldClause). x.reference < low) (before ++ h ∷ hs) h first (Contains-append_right before (h ∷ hs) h (Contains-head h hs h refl)) in omega arith)
+    absurd (let less = All-contains (λ (x : HeldClause). x.reference < low) (before ++ h ∷ hs) h first
+    (Contains-append_right before (h ∷ hs) h (Contains-head h hs h refl)) in omega arith)
 Starts-behind before (h ∷ hs) low (Some r) below (here, rest) (up, small, (k, x, p, is, same), least) =
-    let head = All-contains (λ (y : HeldClause). y.reference < r.place → y.reference < low) (before ++ h ∷ hs) h least (Contains-append_right before (h ∷ hs) h (Contains-head h hs h refl)) in (
+    let head = All-contains (λ (y : HeldClause). y.reference < r.place → y.reference < low) (before ++ h ∷ hs) h least
+    (Contains-append_right before (h ∷ hs) h (Contains-head h hs h refl)) in (
       h,
       hs,
       refl,
@@ -63,7 +66,8 @@ Starts-behind before (h ∷ hs) low (Some r) below (here, rest) (up, small, (k, 
     after head above = let low_again = head (omega arith) in omega arith
 
 -- the clause in the middle goes
-pub without_middle : (before : List HeldClause) (h : HeldClause) (rest : List HeldClause) → All (λ x. x.reference < h.reference) before → RisesFrom (h.reference + 1) rest
+pub without_middle : (before : List HeldClause) (h : HeldClause) (rest : List HeldClause) → All (λ x. x.reference < h.reference) before
+    → RisesFrom (h.reference + 1) rest
     → without (before ++ h ∷ rest) h.reference ≡ before ++ rest
 without_middle [] h rest below rises =
     step (eqb h.reference h.reference) (eq-eqb h.reference h.reference refl)
@@ -73,7 +77,8 @@ without_middle [] h rest below rises =
     step true e same = same
     step false e same = absurd (cc)
 without_middle (x ∷ xs) h rest below rises =
-    step (eqb x.reference h.reference) (ne_eqb x.reference h.reference (λ e. let less = All-head (λ (y : HeldClause). y.reference < h.reference) x xs below in omega arith))
+    step (eqb x.reference h.reference) (ne_eqb x.reference h.reference
+    (λ e. let less = All-head (λ (y : HeldClause). y.reference < h.reference) x xs below in omega arith))
     (without_middle xs h rest (All-tail (λ (y : HeldClause). y.reference < h.reference) x xs below) rises)
   where
     step : (b : Bool) → b ≡ false → without (xs ++ h ∷ rest) h.reference ≡ xs ++ rest

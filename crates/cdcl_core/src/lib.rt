@@ -10,8 +10,6 @@ mod seek;
 mod seeking;
 mod solver;
 mod store;
-#[cfg(test)]
-mod tests;
 
 pub use mem_log::MemLog;
 pub use outcome::{Budget, LogFault, Outcome, SolveFault};

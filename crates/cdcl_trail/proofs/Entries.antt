@@ -25,7 +25,8 @@ pub IsTrueOn-append : (entries more : List TrailEntry) (l : ℕ) → IsTrueOn en
 IsTrueOn-append entries more l (k, x, p, is, same) = let m = Contains-append_left entries more x (k, p, is) in (m.0, x, m.1, m.2, same)
 
 -- a literal that isn't true, and whose opposite isn't, has an unassigned variable
-pub unassigned_from_free : (entries : List TrailEntry) (l : ℕ) → (IsTrueOn entries l → ⊥) → (IsTrueOn entries (opposite_of l) → ⊥) → IsUnassigned entries (variable_of l)
+pub unassigned_from_free : (entries : List TrailEntry) (l : ℕ) → (IsTrueOn entries l → ⊥) → (IsTrueOn entries (opposite_of l) → ⊥)
+    → IsUnassigned entries (variable_of l)
 unassigned_from_free entries l n m k same on =
     elim (same_variable k l same) [ inl e ↦ n (subst (IsTrueOn entries) e on) | inr e ↦ m (subst (IsTrueOn entries) e on) ]
 
@@ -34,7 +35,8 @@ pub no_entry : (entries : List TrailEntry) (v : ℕ) (e : TrailEntry) → IsUnas
 no_entry entries v e unassigned m same = unassigned e.literal same (true_by entries e m)
 
 -- the literals without the newest
-pub popped_literals : (entries : List TrailEntry) (e : TrailEntry) (literals new : List ℕ) (n : ℕ) → literals ≡ map (λ (x : TrailEntry). x.literal) (entries ++ e ∷ [])
+pub popped_literals : (entries : List TrailEntry) (e : TrailEntry) (literals new : List ℕ) (n : ℕ)
+    → literals ≡ map (λ (x : TrailEntry). x.literal) (entries ++ e ∷ [])
     → new ≡ take n literals → n ≡ length literals - 1 → new ≡ map (λ (x : TrailEntry). x.literal) entries
 popped_literals entries e literals new n is cut short =
     let both : literals ≡ map (λ (x : TrailEntry). x.literal) entries ++ e.literal ∷ [] = is ∙ map-append (λ (x : TrailEntry). x.literal) entries (e ∷ []) in

@@ -1,7 +1,9 @@
 -- What one more entry, and what a cut, leaves of the fit.
-use Rattle.std.proofs.Common.{◌≡◌, ℕ, ◌<◌, ◌≤◌, ◌+◌, ◌-◌, inl, inr, List, [], ◌∷◌, ◌++◌, length, take, drop, get_or, All, Option, refl, sym, subst, ap, ◌∙◌, arith}
+use Rattle.std.proofs.Common.{◌≡◌, ℕ, ◌<◌, ◌≤◌, ◌+◌, ◌-◌, inl, inr, List, [], ◌∷◌, ◌++◌, length, take, drop, get_or, All, Option, refl, sym, subst, ap, ◌∙◌}
+use Rattle.std.proofs.Common.{arith}
 use Rattle.std.proofs.lemmas.Bool.{cases_lt}
-use Rattle.std.proofs.lemmas.List.{take-append-le, take_at, drop-append-le, get_or_append_left, get_or_push, length_push, drop_all, length-append, length-drop, get_or-drop}
+use Rattle.std.proofs.lemmas.List.{take-append-le, take_at, drop-append-le, get_or_append_left, get_or_push, length_push, drop_all, length-append}
+use Rattle.std.proofs.lemmas.List.{length-drop, get_or-drop}
 use Rattle.std.proofs.lemmas.List.Elements.{All-push, All-nil}
 use Rattle.clause_meaning.specs.Literals.{opposite_of, variable_of}
 use Rattle.clause_meaning.proofs.LiteralLaws.{opposite_of-opposite_of, opposite_of-ne, variable_of-opposite_of}
@@ -14,13 +16,15 @@ use Rattle.cdcl_trail.specs.Levels.{CutsTo}
 use Rattle.cdcl_trail.specs.Fits.{IsReason, Fits}
 use Rattle.cdcl_trail.proofs.Entries.{IsTrueOn-push_cases, IsTrueOn-append}
 
-reason_at : (arena : Arena) (ys zs : List TrailEntry) (x y : TrailEntry) → ys ≡ zs → x ≡ y → IsReason arena ys x.literal x.reason → IsReason arena zs y.literal y.reason
+reason_at : (arena : Arena) (ys zs : List TrailEntry) (x y : TrailEntry) → ys ≡ zs → x ≡ y → IsReason arena ys x.literal x.reason
+    → IsReason arena zs y.literal y.reason
 reason_at arena ys zs x y e d h =
     subst (λ (w : List TrailEntry). IsReason arena w y.literal y.reason) e (subst (λ (w : TrailEntry). IsReason arena ys w.literal w.reason) d h)
 
 -- one more entry, whose variable is unassigned, at the level of all that is pending
 pub Fits-entry : (trail : State) (arena : Arena) (level l : ℕ) (reason : Option ClauseRef) → Fits trail arena → IsReason arena trail.entries l reason
-    → IsUnassigned trail.entries (variable_of l) → length trail.entries + 1 ≤ trail.variables → All (λ (e : TrailEntry). e.level ≡ level) (drop trail.settled trail.entries)
+    → IsUnassigned trail.entries (variable_of l) → length trail.entries + 1 ≤ trail.variables
+    → All (λ (e : TrailEntry). e.level ≡ level) (drop trail.settled trail.entries)
     → Fits (with_entry trail level l reason) arena
 Fits-entry trail arena level l reason fits forced unassigned few pending =
     let entry : TrailEntry = record { literal = l; level = level; reason = reason } in
@@ -38,7 +42,8 @@ Fits-entry trail arena level l reason fits forced unassigned few pending =
         ]
       ];
       reasons = λ i d below. elim (cases_lt i (length trail.entries)) [
-        | inl h ↦ reason_at arena (take i trail.entries) (take i (trail.entries ++ entry ∷ [])) (get_or trail.entries i d) (get_or (trail.entries ++ entry ∷ []) i d)
+        | inl h ↦ reason_at arena (take i trail.entries) (take i (trail.entries ++ entry ∷ [])) (get_or trail.entries i d)
+            (get_or (trail.entries ++ entry ∷ []) i d)
             (sym (take-append-le i trail.entries (entry ∷ []) (omega arith))) (sym (get_or_append_left trail.entries (entry ∷ []) d i h)) (fits.reasons i d h)
         | inr h ↦ (let here : length trail.entries ≡ i = omega (arith, length_push trail.entries entry) in
             reason_at arena trail.entries (take i (trail.entries ++ entry ∷ [])) entry (get_or (trail.entries ++ entry ∷ []) i d)
@@ -62,7 +67,8 @@ Fits-choices trail arena focus counts fits = record {
 }
 
 -- where all is settled, nothing is pending at whatever level
-pub none_pending : (trail : State) (level : ℕ) → trail.settled ≡ length trail.entries → All (λ (e : TrailEntry). e.level ≡ level) (drop trail.settled trail.entries)
+pub none_pending : (trail : State) (level : ℕ) → trail.settled ≡ length trail.entries
+    → All (λ (e : TrailEntry). e.level ≡ level) (drop trail.settled trail.entries)
 none_pending trail level all =
     subst (All (λ (e : TrailEntry). e.level ≡ level)) (sym (drop_all trail.settled trail.entries (omega arith))) (All-nil (λ (e : TrailEntry). e.level ≡ level))
 
@@ -85,12 +91,14 @@ Fits-cut old new arena target fits cut below =
     let gone = cut.cut.0 in
     let is : old.entries ≡ new.entries ++ gone = cut.cut.1 in
     let long : length old.entries ≡ length new.entries + length gone = ap length is ∙ length-append new.entries gone in
-    let back : (l : ℕ) → IsTrueOn new.entries l → IsTrueOn old.entries l = λ l p. subst (λ (es : List TrailEntry). IsTrueOn es l) (sym is) (IsTrueOn-append new.entries gone l p) in
+    let back : (l : ℕ) → IsTrueOn new.entries l → IsTrueOn old.entries l =
+    λ l p. subst (λ (es : List TrailEntry). IsTrueOn es l) (sym is) (IsTrueOn-append new.entries gone l p) in
     record {
       same_variables = fits.same_variables ∙ sym cut.variables;
       consistent = λ l p q. fits.consistent l (back l p) (back (opposite_of l) q);
       reasons = λ i d h. reason_at arena (take i old.entries) (take i new.entries) (get_or old.entries i d) (get_or new.entries i d)
-          (ap (take i) is ∙ take-append-le i new.entries gone (omega arith)) (ap (λ (es : List TrailEntry). get_or es i d) is ∙ get_or_append_left new.entries gone d i h)
+          (ap (take i) is ∙ take-append-le i new.entries gone (omega arith))
+          (ap (λ (es : List TrailEntry). get_or es i d) is ∙ get_or_append_left new.entries gone d i h)
           (fits.reasons i d (omega (arith, long, h)));
       few = omega (arith, fits.few, cut.variables, long);
       settled = omega (arith, cut.settled);

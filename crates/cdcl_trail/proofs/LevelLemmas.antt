@@ -1,5 +1,6 @@
 -- Levels that rise by single steps.
-use Rattle.std.proofs.Common.{◌≡◌, ℕ, zero, suc, ◌<◌, ◌≤◌, ◌+◌, Option, Some, None, IfSome, IfNone, get_or, List, [], ◌∷◌, ◌++◌, length, All, refl, subst, ap, ◌∙◌, arith}
+use Rattle.std.proofs.Common.{◌≡◌, ℕ, zero, suc, ◌<◌, ◌≤◌, ◌+◌, Option, Some, None, IfSome, IfNone, get_or, List, [], ◌∷◌, ◌++◌, length, All, refl, subst, ap}
+use Rattle.std.proofs.Common.{◌∙◌, arith}
 use Rattle.std.proofs.lemmas.List.{append_assoc}
 use Rattle.std.proofs.lemmas.List.Elements.{All-cons, All-nil}
 use Rattle.cdcl_trail.specs.declared.trail_entry.TrailEntry.{TrailEntry}
@@ -9,12 +10,14 @@ pub last_level-push : (before : ℕ) (entries : List TrailEntry) (e : TrailEntry
 last_level-push before [] e = refl
 last_level-push before (x ∷ xs) e = last_level-push x.level xs e
 
-pub RiseFrom-push : (before : ℕ) (entries : List TrailEntry) (e : TrailEntry) → RiseFrom before entries → last_level before entries ≤ e.level → e.level ≤ last_level before entries + 1
+pub RiseFrom-push : (before : ℕ) (entries : List TrailEntry) (e : TrailEntry) → RiseFrom before entries → last_level before entries ≤ e.level
+    → e.level ≤ last_level before entries + 1
     → RiseFrom before (entries ++ e ∷ [])
 RiseFrom-push before [] e rise low high = (low, high, tt)
 RiseFrom-push before (x ∷ xs) e (from, to, rise) low high = (from, to, RiseFrom-push x.level xs e rise low high)
 
-pub RiseFrom-front : (before : ℕ) (entries : List TrailEntry) (e : TrailEntry) → RiseFrom before (entries ++ e ∷ []) → RiseFrom before entries × (e.level ≤ last_level before entries + 1)
+pub RiseFrom-front : (before : ℕ) (entries : List TrailEntry) (e : TrailEntry) → RiseFrom before (entries ++ e ∷ []) → RiseFrom before entries
+    × (e.level ≤ last_level before entries + 1)
 RiseFrom-front before [] e (from, to, rise) = (tt, to)
 RiseFrom-front before (x ∷ xs) e (from, to, rise) = (let r = RiseFrom-front x.level xs e rise in ((from, to, r.0), r.1))
 
@@ -27,14 +30,16 @@ last_level-above : (before : ℕ) (entries : List TrailEntry) → RiseFrom befor
 last_level-above before [] rise = omega arith
 last_level-above before (x ∷ xs) (from, to, rise) = (let r = last_level-above x.level xs rise in omega arith)
 
-pub All-up_to_last : (before : ℕ) (entries : List TrailEntry) (target : ℕ) → RiseFrom before entries → last_level before entries ≤ target → All (λ (e : TrailEntry). e.level ≤ target) entries
+pub All-up_to_last : (before : ℕ) (entries : List TrailEntry) (target : ℕ) → RiseFrom before entries → last_level before entries ≤ target
+    → All (λ (e : TrailEntry). e.level ≤ target) entries
 All-up_to_last before [] target rise up = All-nil (λ (e : TrailEntry). e.level ≤ target)
 All-up_to_last before (x ∷ xs) target (from, to, rise) up =
     let above = last_level-above x.level xs rise in
     All-cons (λ (e : TrailEntry). e.level ≤ target) x xs (omega arith) (All-up_to_last x.level xs target rise up)
 
 -- the level of the newest entry, by its place
-pub last_level-at : (before : ℕ) (entries : List TrailEntry) (n : ℕ) (d : TrailEntry) → n + 1 ≡ length entries → (get_or entries n d).level ≡ last_level before entries
+pub last_level-at : (before : ℕ) (entries : List TrailEntry) (n : ℕ) (d : TrailEntry) → n + 1 ≡ length entries
+    → (get_or entries n d).level ≡ last_level before entries
 last_level-at before [] n d h = absurd (omega arith)
 last_level-at before (x ∷ []) zero d h = refl
 last_level-at before (x ∷ []) (suc n) d h = absurd (omega arith)

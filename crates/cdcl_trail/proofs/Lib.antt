@@ -6,4 +6,3 @@ pub mod Fitting
 pub mod LastValues
 pub mod Passes
 pub mod Picking
-pub mod TestLemmas

@@ -1,5 +1,6 @@
 -- A pass over the live clauses.
-use Rattle.std.proofs.Common.{◌≡◌, ℕ, ◌<◌, ◌≤◌, ◌+◌, ◌-◌, ◌^◌, ◌⊎◌, inl, inr, List, [], ◌∷◌, ◌++◌, length, Contains, All, Bool, true, false, Option, Some, None, IsSome, IfSome, refl, sym, subst, ap, ◌∙◌, arith}
+use Rattle.std.proofs.Common.{◌≡◌, ℕ, ◌<◌, ◌≤◌, ◌+◌, ◌-◌, ◌^◌, ◌⊎◌, inl, inr, List, [], ◌∷◌, ◌++◌, length, Contains, All, Bool, true, false, Option, Some}
+use Rattle.std.proofs.Common.{None, IsSome, IfSome, refl, sym, subst, ap, ◌∙◌, arith}
 use Rattle.std.proofs.lemmas.Bool.{cases_eq}
 use Rattle.std.proofs.lemmas.List.{append_assoc, append-nil, drop_all}
 use Rattle.std.proofs.lemmas.List.Elements.{All-push, All-append, All-nil, All-contains}
@@ -73,13 +74,15 @@ pub record PassHolds (old trail : State) (arena : Arena) (grows : Bool) (at : Op
 
 before_first : (trail : State) (arena : Arena) (at : Option ClauseRef) → IsFirstFrom arena.live 0 at → RestBefore trail arena at
 before_first trail arena None first held m before two = absurd (omega (arith, All-contains (λ h. h.reference < 0) arena.live held first m))
-before_first trail arena (Some r) first held m before two = absurd (omega (arith, All-contains (λ h. h.reference < r.place → h.reference < 0) arena.live held first.3 m before))
+before_first trail arena (Some r) first held m before two = absurd
+    (omega (arith, All-contains (λ h. h.reference < r.place → h.reference < 0) arena.live held first.3 m before))
 
 pub live_first : (arena : Arena) (low : ℕ) (at : Option ClauseRef) → IsFirstFrom arena.live low at → IfSome at (λ (r : ClauseRef). IsLive arena r.place)
 live_first arena low None first = tt
 live_first arena low (Some r) first = first.2
 
-pub PassHolds-start : (trail : State) (arena : Arena) (at : Option ClauseRef) → Fits trail arena → IsFirstFrom arena.live 0 at → PassHolds trail trail arena false at
+pub PassHolds-start : (trail : State) (arena : Arena) (at : Option ClauseRef) → Fits trail arena → IsFirstFrom arena.live 0 at
+    → PassHolds trail trail arena false at
 PassHolds-start trail arena at fits first = record {
   fits = fits;
   grown = Grows-same trail;
@@ -88,7 +91,8 @@ PassHolds-start trail arena at fits first = record {
   live = live_first arena 0 at first;
 }
 
-pub PassHolds-grows : (old trail new : State) (arena : Arena) (grows : Bool) (r : ClauseRef) (at : Option ClauseRef) → PassHolds old trail arena grows (Some r) → IsFirstFrom arena.live (r.place + 1) at
+pub PassHolds-grows : (old trail new : State) (arena : Arena) (grows : Bool) (r : ClauseRef) (at : Option ClauseRef)
+    → PassHolds old trail arena grows (Some r) → IsFirstFrom arena.live (r.place + 1) at
     → Grows trail new → Fits new arena → length trail.entries < length new.entries → PassHolds old new arena true at
 PassHolds-grows old trail new arena grows r at h first grown fits more =
     let rises = h.rises in
@@ -100,11 +104,13 @@ PassHolds-grows old trail new arena grows r at h first grown fits more =
       live = live_first arena (r.place + 1) at first;
     }
 
-pub behind : (arena : Arena) (r : ClauseRef) (at : Option ClauseRef) (held : HeldClause) → IsFirstFrom arena.live (r.place + 1) at → Contains arena.live held → IsBefore held.reference at → held.reference < r.place + 1
+pub behind : (arena : Arena) (r : ClauseRef) (at : Option ClauseRef) (held : HeldClause) → IsFirstFrom arena.live (r.place + 1) at → Contains arena.live held
+    → IsBefore held.reference at → held.reference < r.place + 1
 behind arena r None held first m before = All-contains (λ h. h.reference < r.place + 1) arena.live held first m
 behind arena r (Some s) held first m before = All-contains (λ h. h.reference < s.place → h.reference < r.place + 1) arena.live held first.3 m before
 
-pub PassHolds-rests : (old trail : State) (arena : Arena) (grows : Bool) (r : ClauseRef) (at : Option ClauseRef) → PassHolds old trail arena grows (Some r) → IsFirstFrom arena.live (r.place + 1) at
+pub PassHolds-rests : (old trail : State) (arena : Arena) (grows : Bool) (r : ClauseRef) (at : Option ClauseRef) → PassHolds old trail arena grows (Some r)
+    → IsFirstFrom arena.live (r.place + 1) at
     → ((clause : List ℕ) → Names arena r.place clause → 2 ≤ length clause → Rests (IsTrueOn trail.entries) clause) → PassHolds old trail arena grows at
 PassHolds-rests old trail arena grows r at h first rests = record {
   fits = h.fits;
@@ -123,7 +129,8 @@ PassHolds-rests old trail arena grows r at h first rests = record {
   live = live_first arena (r.place + 1) at first;
 }
 
-pub left_of-next : (arena : Arena) (r : ClauseRef) (at : Option ClauseRef) → r.place < 2 ^ 64 → IsFirstFrom arena.live (r.place + 1) at → left_of at < left_of (Some r)
+pub left_of-next : (arena : Arena) (r : ClauseRef) (at : Option ClauseRef) → r.place < 2 ^ 64 → IsFirstFrom arena.live (r.place + 1) at
+    → left_of at < left_of (Some r)
 left_of-next arena r None small first = omega arith
 left_of-next arena r (Some s) small first = omega (arith, first.0, first.1)
 

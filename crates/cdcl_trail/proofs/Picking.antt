@@ -43,7 +43,8 @@ IsPick-more Open variables i best (Some w) below pick (inr (e, free)) =
     (Contains-take_more_at variables i w below (get_or_default_zero variables i w below ∙ sym e), subst Open (sym e) free)
 
 -- all variables were looked at
-pub IsPick-all : (Open : ℕ → Type 0) (variables : List ℕ) (i : ℕ) (r : Option ℕ) → length variables ≤ i → IsPick Open (take i variables) r → IsPick Open variables r
+pub IsPick-all : (Open : ℕ → Type 0) (variables : List ℕ) (i : ℕ) (r : Option ℕ) → length variables ≤ i → IsPick Open (take i variables) r
+    → IsPick Open variables r
 IsPick-all Open variables i None past pick = λ v m free. pick v (Contains-take_all variables i v past m) free
 IsPick-all Open variables i (Some w) past pick = (Contains-take variables i w pick.0, pick.1)
 

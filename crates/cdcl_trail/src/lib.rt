@@ -5,8 +5,6 @@ mod assignment;
 mod branching;
 mod looks;
 mod propagate;
-#[cfg(test)]
-mod tests;
 mod trail;
 mod trail_entry;
 

@@ -1,5 +1,6 @@
 -- What the clauses in slots are after one more, one less, and after the free slots are gone.
-use Rattle.std.proofs.Common.{◌≡◌, ◌≢◌, ℕ, zero, suc, ◌<◌, ◌+◌, List, [], ◌∷◌, ◌++◌, length, get_or, set, take, map, Contains, Bool, true, false, cond, not, eqb, refl, sym, ap, ◌∙◌, arith, rules}
+use Rattle.std.proofs.Common.{◌≡◌, ◌≢◌, ℕ, zero, suc, ◌<◌, ◌+◌, List, [], ◌∷◌, ◌++◌, length, get_or, set, take, map, Contains, Bool, true, false, cond, not}
+use Rattle.std.proofs.Common.{eqb, refl, sym, ap, ◌∙◌, arith, rules}
 use Rattle.std.proofs.lemmas.Bool.{ne_eqb}
 use Rattle.std.specs.List.{filter}
 use Rattle.clause_meaning.proofs.Members.{Contains-head, Contains-tail}
@@ -41,7 +42,8 @@ held_at_without place r [] held n = refl
 held_at_without place r (x ∷ xs) held n = step (eqb place r) (ne_eqb place r n)
   where
     step : (b : Bool) → b ≡ false
-        → cond (not b) (record { reference = place; literals = x ∷ xs } ∷ without held r) (without held r) ≡ record { reference = place; literals = x ∷ xs } ∷ without held r
+        → cond (not b) (record { reference = place; literals = x ∷ xs } ∷ without held r) (without held r) ≡ record { reference = place; literals = x ∷ xs }
+        ∷ without held r
     step true e = absurd (cc)
     step false e = refl
 
@@ -68,7 +70,8 @@ held_from-free n (x ∷ xs) (suc k) h =
     ∙ ap (without (held_at n x (held_from (n + 1) xs))) (omega arith))
 
 -- how many slots have a clause, one slot at a time
-pub full_count_more : (slots : List (List ℕ)) (i : ℕ) → i < length slots → full_count (take (i + 1) slots) ≡ full_count (take i slots) + full_in (get_or slots i [])
+pub full_count_more : (slots : List (List ℕ)) (i : ℕ) → i < length slots
+    → full_count (take (i + 1) slots) ≡ full_count (take i slots) + full_in (get_or slots i [])
 full_count_more [] i h = absurd (omega arith)
 full_count_more (x ∷ xs) zero h = omega arith
 full_count_more (x ∷ xs) (suc i) h =

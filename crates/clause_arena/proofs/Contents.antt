@@ -1,5 +1,6 @@
 -- The literals in slots, for the slots of the code.
-use Rattle.std.proofs.Common.{◌≡◌, ◌≢◌, ℕ, ◌<◌, List, [], ◌∷◌, length, get_or, filter, Vec, Global, Bool, true, false, not, cond, eqb, vec_len, refl, sym, ap, ◌∙◌, arith}
+use Rattle.std.proofs.Common.{◌≡◌, ◌≢◌, ℕ, ◌<◌, List, [], ◌∷◌, length, get_or, filter, Vec, Global, Bool, true, false, not, cond, eqb, vec_len, refl, sym, ap}
+use Rattle.std.proofs.Common.{◌∙◌, arith}
 use Rattle.std.proofs.lemmas.Bool.{eqb-true, eqb-false}
 use Rattle.std.proofs.lemmas.List.{nil_from_length, get_or-map, length-map}
 use Rattle.clause_arena.specs.declared.slots.Slot.{Slot}
@@ -50,7 +51,8 @@ contents-filter [] = refl
 contents-filter (slot ∷ slots) = by_test (has_literals slot) (is_full slot.literals.items) (has_literals_is_full slot) (contents-filter slots)
   where
     by_test : (b d : Bool) → b ≡ d → contents (filter has_literals slots) ≡ filter is_full (contents slots)
-        → contents (cond b (slot ∷ filter has_literals slots) (filter has_literals slots)) ≡ cond d (slot.literals.items ∷ filter is_full (contents slots)) (filter is_full (contents slots))
+        → contents (cond b (slot ∷ filter has_literals slots) (filter has_literals slots))
+        ≡ cond d (slot.literals.items ∷ filter is_full (contents slots)) (filter is_full (contents slots))
     by_test true true e rest = ap (λ (xs : List (List ℕ)). slot.literals.items ∷ xs) rest
     by_test true false e rest = absurd (cc)
     by_test false true e rest = absurd (cc)

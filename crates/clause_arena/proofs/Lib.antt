@@ -2,4 +2,3 @@ pub mod SlotLemmas
 pub mod Contents
 pub mod Changes
 pub mod Ranking
-pub mod TestLemmas

@@ -1,5 +1,6 @@
 -- Slots that get the number of clauses before them, and references that get new places.
-use Rattle.std.proofs.Common.{◌≡◌, ℕ, zero, suc, ◌<◌, ◌≤◌, ◌+◌, inl, inr, List, [], ◌∷◌, ◌++◌, length, get_or, set, take, drop, map, get_or-set_same, get_or-set_other, refl, sym, ap, ◌∙◌, arith}
+use Rattle.std.proofs.Common.{◌≡◌, ℕ, zero, suc, ◌<◌, ◌≤◌, ◌+◌, inl, inr, List, [], ◌∷◌, ◌++◌, length, get_or, set, take, drop, map, get_or-set_same}
+use Rattle.std.proofs.Common.{get_or-set_other, refl, sym, ap, ◌∙◌, arith}
 use Rattle.std.proofs.lemmas.Bool.{cases_eq}
 use Rattle.std.proofs.Math.Seq.{map-set_same}
 use Rattle.clause_arena.specs.declared.slots.Slot.{Slot}
@@ -22,10 +23,12 @@ full_in_one [] = omega arith
 full_in_one (x ∷ xs) = omega arith
 
 pub RanksTo-more : (old slots : List Slot) (count i more : ℕ) (slot d : Slot) → RanksTo old slots count i → i < length slots
-    → slot.literals.items ≡ (get_or slots i d).literals.items → slot.rank ≡ count → more ≡ full_in slot.literals.items → RanksTo old (set slots i slot) (count + more) (i + 1)
+    → slot.literals.items ≡ (get_or slots i d).literals.items → slot.rank ≡ count → more ≡ full_in slot.literals.items
+    → RanksTo old (set slots i slot) (count + more) (i + 1)
 RanksTo-more old slots count i more slot d h below literals rank is_more =
     let long : i < length (contents old) = omega (arith, below, length-contents slots, ap length h.same) in
-    let at : get_or (contents old) i [] ≡ slot.literals.items = ap (λ (xs : List (List ℕ)). get_or xs i []) (sym h.same) ∙ (contents_at slots i d below ∙ sym literals) in
+    let at : get_or (contents old) i [] ≡ slot.literals.items = ap (λ (xs : List (List ℕ)). get_or xs i []) (sym h.same)
+    ∙ (contents_at slots i d below ∙ sym literals) in
     let next = full_count_more (contents old) i long in
     let full = ap full_in at in
     let one = full_in_one slot.literals.items in

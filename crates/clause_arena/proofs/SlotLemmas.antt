@@ -1,5 +1,6 @@
 -- The clauses in slots, by their places.
-use Rattle.std.proofs.Common.{◌≡◌, ◌≢◌, ℕ, zero, suc, ◌<◌, ◌≤◌, ◌+◌, ◌⊎◌, inl, inr, List, [], ◌∷◌, length, get_or, Contains, All, Any, refl, sym, subst, ap, ◌∙◌, arith}
+use Rattle.std.proofs.Common.{◌≡◌, ◌≢◌, ℕ, zero, suc, ◌<◌, ◌≤◌, ◌+◌, ◌⊎◌, inl, inr, List, [], ◌∷◌, length, get_or, Contains, All, Any, refl, sym, subst, ap}
+use Rattle.std.proofs.Common.{◌∙◌, arith}
 use Rattle.std.proofs.lemmas.List.Elements.{Contains-get_or}
 use Rattle.std.proofs.lemmas.List.Kept.{AllPairs-cons}
 use Rattle.clause_meaning.proofs.Members.{Contains-nil, Contains-cons_cases, Contains-head, Contains-tail}
@@ -43,7 +44,8 @@ pub slot_is_held : (n : ℕ) (slots : List (List ℕ)) (k : ℕ) → k < length 
     → Contains (held_from n slots) (record { reference = n + k; literals = get_or slots k [] })
 slot_is_held n [] k h m = absurd (omega arith)
 slot_is_held n (literals ∷ others) zero h m =
-    subst (λ (i : ℕ). Contains (held_from n (literals ∷ others)) (record { reference = i; literals = literals })) (omega arith) (held_at_here n literals (held_from (n + 1) others) m)
+    subst (λ (i : ℕ). Contains (held_from n (literals ∷ others)) (record { reference = i; literals = literals })) (omega arith)
+    (held_at_here n literals (held_from (n + 1) others) m)
 slot_is_held n (literals ∷ others) (suc k) h m =
     subst (λ (i : ℕ). Contains (held_from n (literals ∷ others)) (record { reference = i; literals = get_or others k [] })) (omega arith)
     (held_at_rest n literals (held_from (n + 1) others) _ (slot_is_held (n + 1) others k (omega arith) m))
@@ -63,7 +65,8 @@ named_slot slots r below some =
     subst (λ (i : ℕ). Contains (held_from 0 slots) (record { reference = i; literals = get_or slots r [] })) (omega arith) (slot_is_held 0 slots r below some)
 
 -- what a reference names is what its slot has
-pub slot_has : (slots : List (List ℕ)) (r : ℕ) (literals : List ℕ) → Contains (held_from 0 slots) (record { reference = r; literals = literals }) → literals ≡ get_or slots r []
+pub slot_has : (slots : List (List ℕ)) (r : ℕ) (literals : List ℕ) → Contains (held_from 0 slots) (record { reference = r; literals = literals })
+    → literals ≡ get_or slots r []
 slot_has slots r literals named =
     let s = held_from_slot 0 slots (record { reference = r; literals = literals }) named in
     let place : s.0 ≡ r = omega (arith, s.2) in

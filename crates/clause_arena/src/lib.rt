@@ -4,8 +4,6 @@
 mod arena;
 mod clause_ref;
 mod slots;
-#[cfg(test)]
-mod tests;
 
 pub use arena::Arena;
 pub use clause_ref::ClauseRef;

@@ -10,7 +10,8 @@ use Rattle.clause_meaning.proofs.Members.{Contains-head}
 use Rattle.clause_meaning.proofs.Chains.{Reaches-least, Reaches-given, Reaches-forced, Refutes-more}
 use Rattle.clause_meaning.specs.Learning.{Nothing, OccursIn, IsLearnable}
 
-pub Reaches-inside : (scope : ℕ → Bool) (S : List ℕ → Type 0) (L : ℕ → Type 0) → Separates scope S → (l : ℕ) → Reaches S L l → scope (variable_of l) ≡ true → Reaches (Inside scope S) L l
+pub Reaches-inside : (scope : ℕ → Bool) (S : List ℕ → Type 0) (L : ℕ → Type 0) → Separates scope S → (l : ℕ) → Reaches S L l → scope (variable_of l) ≡ true
+    → Reaches (Inside scope S) L l
 Reaches-inside scope S L separated =
     Reaches-least S L (λ l. scope (variable_of l) ≡ true → Reaches (Inside scope S) L l) (λ l g _. Reaches-given (Inside scope S) L l g)
     (λ c l s f here. elim (separated c s) [

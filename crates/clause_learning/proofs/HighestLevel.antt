@@ -15,7 +15,8 @@ use Rattle.clause_learning.proofs.LevelFacts.{same_entry, BecameFalse-from, know
 pub assigned_by : (entries : List TrailEntry) (l : ℕ) → IsTrueOn entries (opposite_of l) → IsAssigned entries (variable_of l)
 assigned_by entries l (k, e, p, is, same) = (k, e, p, is, ap variable_of same ∙ variable_of-opposite_of l)
 
-pub BecameFalse-by_level : (entries : List TrailEntry) (n l : ℕ) → AreDistinct entries → IsTrueOn entries (opposite_of l) → HasLevel entries (variable_of l) n → BecameFalse entries n l
+pub BecameFalse-by_level : (entries : List TrailEntry) (n l : ℕ) → AreDistinct entries → IsTrueOn entries (opposite_of l) → HasLevel entries (variable_of l) n
+    → BecameFalse entries n l
 BecameFalse-by_level entries n l distinct (k, x, p, is, same) (e, m, v, at) =
     let one : x ≡ e = same_entry entries x e distinct (k, p, is) m (ap variable_of same ∙ (variable_of-opposite_of l ∙ sym v)) in
     BecameFalse-from entries n l distinct (k, x, p, is, (same, ap (λ (y : TrailEntry). y.level) one ∙ at))
@@ -23,7 +24,8 @@ BecameFalse-by_level entries n l distinct (k, x, p, is, same) (e, m, v, at) =
 -- a literal and its opposite aren't both true
 pub not_both : (entries : List TrailEntry) (l : ℕ) → AreDistinct entries → IsTrueOn entries l → IsTrueOn entries (opposite_of l) → ⊥
 not_both entries l distinct (i, a, p, is, same_a) (j, b, q, at, same_b) =
-    let one : a ≡ b = same_entry entries a b distinct (i, p, is) (j, q, at) (ap variable_of same_a ∙ (sym (variable_of-opposite_of l) ∙ sym (ap variable_of same_b))) in
+    let one : a ≡ b = same_entry entries a b distinct (i, p, is) (j, q, at)
+    (ap variable_of same_a ∙ (sym (variable_of-opposite_of l) ∙ sym (ap variable_of same_b))) in
     opposite_of-ne l (sym same_b ∙ (sym (ap (λ (y : TrailEntry). y.literal) one) ∙ same_a))
 
 -- the highest level of the literals but one, so far
@@ -45,7 +47,8 @@ pub IsHighest-more : (entries : List TrailEntry) (literals : List ℕ) (i except
     → next ≡ max highest level → IsHighest entries (take (i + 1) literals) except next
 IsHighest-more entries literals i except highest level next below before known reached is = record {
   known = λ k m n. elim (Contains-take_more_cases literals i 0 k below m) [
-    | inl t ↦ known_later entries highest next (opposite_of k) (elim (max_cases highest level next is) [ inl (e, b) ↦ omega arith | inr (e, b) ↦ b ]) (before.known k t n)
+    | inl t ↦ known_later entries highest next (opposite_of k) (elim (max_cases highest level next is) [ inl (e, b) ↦ omega arith | inr (e, b) ↦ b ])
+        (before.known k t n)
     | inr e ↦ known_later entries level next (opposite_of k) (elim (max_cases highest level next is) [ inl (d, b) ↦ b | inr (d, b) ↦ omega arith ])
         (subst (λ (y : ℕ). IsKnownAt entries level (opposite_of y)) e (known (λ d. n (sym e ∙ d))))
   ];
@@ -56,7 +59,13 @@ IsHighest-more entries literals i except highest level next below before known r
     ]
     | inr (e, b) ↦ elim reached [
       | inl z ↦ inl (e ∙ z)
-      | inr (n, f) ↦ inr (get_or literals i 0, Contains-take_more_at literals i (get_or literals i 0) below (get_or_default literals i (get_or literals i 0) 0 below), n, subst (λ (y : ℕ). BecameFalse entries y (get_or literals i 0)) (sym e) f)
+      | inr (n, f) ↦ inr (
+        get_or literals i 0,
+        Contains-take_more_at literals i (get_or literals i 0) below
+            (get_or_default literals i (get_or literals i 0) 0 below),
+        n,
+        subst (λ (y : ℕ). BecameFalse entries y (get_or literals i 0)) (sym e) f,
+      )
     ]
   ];
 }

@@ -58,7 +58,8 @@ JoinsNone-step S clause d next p joins s occurs has has_opposite keeps split fro
       ]
       | inr sided ↦ elim (cases_has m d) [
         | inl (l, q, e) ↦ elim (cases_eq l (opposite_of p)) [
-          | inl same ↦ absurd (opposite_absent S m p never (sym (variable_of-opposite_of p) ∙ (ap variable_of (sym same) ∙ e)) (occurs p has) (d, s, has_opposite))
+          | inl same ↦ absurd (opposite_absent S m p never (sym (variable_of-opposite_of p) ∙ (ap variable_of (sym same) ∙ e)) (occurs p has)
+              (d, s, has_opposite))
           | inr n ↦ elim (split l q n) [
             | inl t ↦ inl (l, t, e)
             | inr r ↦ absurd (opposite_absent S m l never e (d, s, q) (reached_occurs S (opposite_of l) r))

@@ -38,7 +38,8 @@ known_before_or_on entries n l up (k, e, p, is, same) =
 pub IsKnownAt-append : (entries more : List TrailEntry) (n l : ℕ) → IsKnownAt entries n l → IsKnownAt (entries ++ more) n l
 IsKnownAt-append entries more n l (k, e, p, is, h) = (let m = Contains-append_left entries more e (k, p, is) in (m.0, e, m.1, m.2, h))
 
-pub IsKnownAt-append_above : (entries more : List TrailEntry) (n l : ℕ) → All (λ (e : TrailEntry). n < e.level) more → IsKnownAt (entries ++ more) n l → IsKnownAt entries n l
+pub IsKnownAt-append_above : (entries more : List TrailEntry) (n l : ℕ) → All (λ (e : TrailEntry). n < e.level) more → IsKnownAt (entries ++ more) n l
+    → IsKnownAt entries n l
 IsKnownAt-append_above entries more n l above (k, e, p, is, (same, up)) =
     elim (Contains-append_cases entries more e (k, p, is)) [
       | inl m ↦ (m.0, e, m.1, m.2, (same, up))
@@ -46,7 +47,8 @@ IsKnownAt-append_above entries more n l above (k, e, p, is, (same, up)) =
     ]
 
 -- each variable has one entry
-pub same_entry : (entries : List TrailEntry) (a b : TrailEntry) → AreDistinct entries → Contains entries a → Contains entries b → variable_of a.literal ≡ variable_of b.literal → a ≡ b
+pub same_entry : (entries : List TrailEntry) (a b : TrailEntry) → AreDistinct entries → Contains entries a → Contains entries b
+    → variable_of a.literal ≡ variable_of b.literal → a ≡ b
 same_entry entries a b distinct (i, p, is) (j, q, at) same =
     elim (cases_order i j) [
       | inl e ↦ sym is ∙ (get_or_default entries i a b p ∙ (ap (λ (k : ℕ). get_or entries k b) e ∙ at))

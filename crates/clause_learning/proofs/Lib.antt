@@ -18,4 +18,3 @@ pub mod Additions
 pub mod Marked
 pub mod Listing
 pub mod Permuted
-pub mod TestLemmas

@@ -24,9 +24,11 @@ flips k l = elim (cases_eq (variable_of k) (variable_of l)) [
 
 pub HaveDistinctVariables-permutation : (xs ys : List ℕ) → IsPermutation xs ys → HaveDistinctVariables xs → HaveDistinctVariables ys
 HaveDistinctVariables-permutation xs ys moved distinct i j d before within e =
-    let apart : IsDistinct same_variable xs = IsDistinct-from_apart same_variable xs (λ k l x p q. ne_eqb (variable_of (get_or xs k x)) (variable_of (get_or xs l x)) (distinct k l x p q)) in
+    let apart : IsDistinct same_variable xs = IsDistinct-from_apart same_variable xs
+    (λ k l x p q. ne_eqb (variable_of (get_or xs k x)) (variable_of (get_or xs l x)) (distinct k l x p q)) in
     let now : IsDistinct same_variable ys = IsDistinct-IsPermutation same_variable flips xs ys moved apart in
-    both_ways (same_variable (get_or ys i d) (get_or ys j d)) (apart_from_distinct same_variable ys i j d now before within) (eq-eqb (variable_of (get_or ys i d)) (variable_of (get_or ys j d)) e)
+    both_ways (same_variable (get_or ys i d) (get_or ys j d)) (apart_from_distinct same_variable ys i j d now before within)
+    (eq-eqb (variable_of (get_or ys i d)) (variable_of (get_or ys j d)) e)
 
 pub IsLearnable-permuted : (S : List ℕ → Type 0) (xs ys : List ℕ) → IsPermutation xs ys → IsLearnable S xs → IsLearnable S ys
 IsLearnable-permuted S xs ys order h = record {

@@ -1,5 +1,6 @@
 -- What the levels of a search know is reached from the assumptions.
-use Rattle.std.proofs.Common.{◌≡◌, ℕ, zero, suc, ◌<◌, ◌≤◌, ◌+◌, min, ◌⊎◌, inl, inr, List, [], ◌∷◌, length, take, get_or, Contains, Option, Some, None, true, refl, sym, subst, ap, ◌∙◌, arith}
+use Rattle.std.proofs.Common.{◌≡◌, ℕ, zero, suc, ◌<◌, ◌≤◌, ◌+◌, min, ◌⊎◌, inl, inr, List, [], ◌∷◌, length, take, get_or, Contains, Option, Some, None, true}
+use Rattle.std.proofs.Common.{refl, sym, subst, ap, ◌∙◌, arith}
 use Rattle.std.proofs.lemmas.Bool.{both_ways, cases_lt}
 use Rattle.std.proofs.lemmas.List.{length-take, get_or-take, get_or_default}
 use Rattle.clause_meaning.specs.Literals.{variable_of}
@@ -49,7 +50,8 @@ reached_by_reason trail arena L s before l (Some reference) (clause, named, two,
     (Forces-more clause (IsTrueOn before) (Reaches (Searched trail arena) L) l all forces)
 
 -- what stands among the first i entries is reached, where each of these is
-earlier : (S : List ℕ → Type 0) (L : ℕ → Type 0) (entries : List TrailEntry) (i : ℕ) → ((k : ℕ) (e : TrailEntry) → k < i → k < length entries → Reaches S L (get_or entries k e).literal)
+earlier : (S : List ℕ → Type 0) (L : ℕ → Type 0) (entries : List TrailEntry) (i : ℕ)
+    → ((k : ℕ) (e : TrailEntry) → k < i → k < length entries → Reaches S L (get_or entries k e).literal)
     → (l : ℕ) → IsTrueOn (take i entries) l → Reaches S L l
 earlier S L entries i h l (k, e, p, is, same) =
     let short : k < min i (length entries) = subst (λ m. k < m) (length-take i entries) p in
@@ -58,7 +60,8 @@ earlier S L entries i h l (k, e, p, is, same) =
 
 -- the entries up to a level, before place n
 reached_before : (trail : State) (arena : Arena) (L : ℕ → Type 0) (b : ℕ) → IsSearching trail arena → AreAssumed L trail.entries b
-    → (n i : ℕ) (d : TrailEntry) → i < n → i < length trail.entries → (get_or trail.entries i d).level ≤ b → Reaches (Searched trail arena) L (get_or trail.entries i d).literal
+    → (n i : ℕ) (d : TrailEntry) → i < n → i < length trail.entries → (get_or trail.entries i d).level ≤ b
+    → Reaches (Searched trail arena) L (get_or trail.entries i d).literal
 reached_before trail arena L b s assumed zero i d h below up = absurd (omega arith)
 reached_before trail arena L b s assumed (suc n) i d h below up =
     reached_by_reason trail arena L s (take i trail.entries) (get_or trail.entries i d).literal (get_or trail.entries i d).reason
@@ -70,7 +73,8 @@ reached_before trail arena L b s assumed (suc n) i d h below up =
     ])
     (earlier (Searched trail arena) L trail.entries i (λ k e p q.
     let rise : (get_or trail.entries k e).level ≤ (get_or trail.entries i e).level = s.searched.ascending k i e p below in
-    let same : (get_or trail.entries i e).level ≡ (get_or trail.entries i d).level = ap (λ (x : TrailEntry). x.level) (get_or_default trail.entries i e d below) in
+    let same : (get_or trail.entries i e).level ≡ (get_or trail.entries i d).level =
+    ap (λ (x : TrailEntry). x.level) (get_or_default trail.entries i e d below) in
     reached_before trail arena L b s assumed n k e (omega (arith, p, h)) q (omega (arith, rise, same, up))))
 
 -- what is known at a level is reached from the assumptions up to it
@@ -78,7 +82,8 @@ pub known_reached : (trail : State) (arena : Arena) (L : ℕ → Type 0) (b : �
     → (l : ℕ) → IsKnownAt trail.entries b l → Reaches (Searched trail arena) L l
 known_reached trail arena L b s assumed l (k, e, p, is, (same, up)) =
     let low : (get_or trail.entries k e).level ≤ b = subst (λ (x : TrailEntry). x.level ≤ b) (sym is) up in
-    subst (Reaches (Searched trail arena) L) (ap (λ (x : TrailEntry). x.literal) is ∙ same) (reached_before trail arena L b s assumed (k + 1) k e (omega arith) p low)
+    subst (Reaches (Searched trail arena) L) (ap (λ (x : TrailEntry). x.literal) is ∙ same)
+    (reached_before trail arena L b s assumed (k + 1) k e (omega arith) p low)
 
 -- what is known at level 0 is reached with no assumption
 pub fixed_reached : (trail : State) (arena : Arena) → IsSearching trail arena → (l : ℕ) → IsKnownAt trail.entries 0 l → Reaches (Searched trail arena) Nothing l
@@ -117,7 +122,8 @@ closed_from_complete trail arena S fits complete live no_empty units = record {
 pub closed_search : (trail : State) (arena : Arena) → IsSearching trail arena → IsComplete trail arena → UnitsStand (Searched trail arena) trail.entries
     → IsClosed (Searched trail arena) (IsTrueOn trail.entries)
 closed_search trail arena s complete units =
-    closed_from_complete trail arena (Searched trail arena) s.fits complete (λ c m. m.0) (λ m. (s.proper [] m.0).some refl) (λ u m. known_true trail.entries 0 u (units u m))
+    closed_from_complete trail arena (Searched trail arena) s.fits complete (λ c m. m.0) (λ m. (s.proper [] m.0).some refl)
+    (λ u m. known_true trail.entries 0 u (units u m))
 
 -- above level 0 the units stand, since level 0 is closed
 pub UnitsStand-above : (trail : State) (arena : Arena) → IsSearching trail arena → 0 < trail.level → UnitsStand (Searched trail arena) trail.entries

@@ -25,7 +25,8 @@ pub true_from_take : (entries : List TrailEntry) (i l : ℕ) → IsTrueOn (take 
 true_from_take entries i l (k, e, p, is, same) = (let m = Contains-take entries i e (k, p, is) in (m.0, e, m.1, m.2, same))
 
 -- what is true among one entry more
-pub true_take_cases : (entries : List TrailEntry) (i l : ℕ) (d : TrailEntry) → i < length entries → IsTrueOn (take (i + 1) entries) l → IsTrueOn (take i entries) l ⊎ ((get_or entries i d).literal ≡ l)
+pub true_take_cases : (entries : List TrailEntry) (i l : ℕ) (d : TrailEntry) → i < length entries → IsTrueOn (take (i + 1) entries) l
+    → IsTrueOn (take i entries) l ⊎ ((get_or entries i d).literal ≡ l)
 true_take_cases entries i l d below (k, e, p, is, same) =
     elim (Contains-take_more_cases entries i d e below (k, p, is)) [
       | inl m ↦ inl (m.0, e, m.1, m.2, same)
@@ -45,17 +46,21 @@ one_or_each K M (x ∷ xs) h =
     ]
 
 -- a false clause of the search has a literal of the current level, since the level below is closed
-one_of_level : (trail : State) (arena : Arena) (c : List ℕ) (n : ℕ) → IsSearching trail arena → trail.level ≡ n + 1 → Searched trail arena c → IsFalseUnder (IsTrueOn trail.entries) c
+one_of_level : (trail : State) (arena : Arena) (c : List ℕ) (n : ℕ) → IsSearching trail arena → trail.level ≡ n + 1 → Searched trail arena c
+    → IsFalseUnder (IsTrueOn trail.entries) c
     → (k : ℕ) × Contains c k × IsOnLevel trail.entries trail.level (opposite_of k)
 one_of_level trail arena c n s at here refuted =
-    let up : All (λ (e : TrailEntry). e.level ≤ n + 1) trail.entries = subst (λ (m : ℕ). All (λ (e : TrailEntry). e.level ≤ m) trail.entries) at s.searched.up_to in
-    elim (one_or_each (λ k. IsKnownAt trail.entries n (opposite_of k)) (λ k. IsOnLevel trail.entries (n + 1) (opposite_of k)) c (λ k m. known_before_or_on trail.entries n (opposite_of k) up (refuted k m))) [
+    let up : All (λ (e : TrailEntry). e.level ≤ n + 1) trail.entries =
+    subst (λ (m : ℕ). All (λ (e : TrailEntry). e.level ≤ m) trail.entries) at s.searched.up_to in
+    elim (one_or_each (λ k. IsKnownAt trail.entries n (opposite_of k)) (λ k. IsOnLevel trail.entries (n + 1) (opposite_of k)) c
+    (λ k m. known_before_or_on trail.entries n (opposite_of k) up (refuted k m))) [
       | inl each ↦ absurd ((s.searched.closed n (omega (arith, at))).no_clash (inl (c, here, each)))
       | inr (k, m, on) ↦ (k, m, subst (λ (x : ℕ). IsOnLevel trail.entries x (opposite_of k)) (sym at) on)
     ]
 
 -- the open literals of the false clause are a resolvent
-pub IsResolvent-start : (trail : State) (arena : Arena) (c new : List ℕ) → IsSearching trail arena → AreDistinct trail.entries → 0 < trail.level → LiveIn arena c → AreBelow trail.variables c
+pub IsResolvent-start : (trail : State) (arena : Arena) (c new : List ℕ) → IsSearching trail arena → AreDistinct trail.entries → 0 < trail.level
+    → LiveIn arena c → AreBelow trail.variables c
     → IsFalseUnder (IsTrueOn trail.entries) c → Joins trail.entries [] c new → IsResolvent trail arena new (length trail.entries)
 IsResolvent-start trail arena c new s distinct above live range refuted joins =
     let here : Searched trail arena c = false_searched trail arena c s live refuted in
@@ -63,7 +68,8 @@ IsResolvent-start trail arena c new s distinct above live range refuted joins =
     record {
       before = λ k m. elim (joins.from k m) [
         | inl none ↦ absurd (Contains-nil k none)
-        | inr (in_c, fresh) ↦ subst (λ (es : List TrailEntry). IsTrueOn es (opposite_of k)) (sym (take_all (length trail.entries) trail.entries (omega arith))) fresh.is_false
+        | inr (in_c, fresh) ↦ subst (λ (es : List TrailEntry). IsTrueOn es (opposite_of k))
+            (sym (take_all (length trail.entries) trail.entries (omega arith))) fresh.is_false
       ];
       above = λ k m. elim (joins.from k m) [ inl none ↦ absurd (Contains-nil k none) | inr (in_c, fresh) ↦ fresh.above ];
       once = joins.once (λ i j d h p. absurd (omega arith));
@@ -84,7 +90,8 @@ IsResolvent-start trail arena c new s distinct above live range refuted joins =
     split k m = elim (joins.has k m (refuted k m)) [ inl p ↦ inl p | inr fixed ↦ inr (fixed_reached trail arena s (opposite_of k) fixed) ]
 
 -- a literal of the trail whose opposite isn't in the resolvent is passed over
-pub IsResolvent-pass : (trail : State) (arena : Arena) (literals : List ℕ) (i : ℕ) (d : TrailEntry) → i < length trail.entries → IsResolvent trail arena literals (i + 1)
+pub IsResolvent-pass : (trail : State) (arena : Arena) (literals : List ℕ) (i : ℕ) (d : TrailEntry) → i < length trail.entries
+    → IsResolvent trail arena literals (i + 1)
     → (Contains literals (opposite_of (get_or trail.entries i d).literal) → ⊥) → IsResolvent trail arena literals i
 IsResolvent-pass trail arena literals i d below r absent = record {
   before = λ k m. elim (true_take_cases trail.entries i (opposite_of k) d below (r.before k m)) [

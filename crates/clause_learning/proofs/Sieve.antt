@@ -20,7 +20,8 @@ pub filter_contains : (p : ℕ → Bool) (xs : List ℕ) (k : ℕ) → Contains 
 filter_contains p [] k m = absurd (Contains-nil k m)
 filter_contains p (x ∷ xs) k m = step (p x) refl m (filter_contains p xs k)
   where
-    step : (b : Bool) → p x ≡ b → Contains (cond b (x ∷ filter p xs) (filter p xs)) k → (Contains (filter p xs) k → Contains xs k × (p k ≡ true)) → Contains (x ∷ xs) k × (p k ≡ true)
+    step : (b : Bool) → p x ≡ b → Contains (cond b (x ∷ filter p xs) (filter p xs)) k → (Contains (filter p xs) k → Contains xs k × (p k ≡ true))
+        → Contains (x ∷ xs) k × (p k ≡ true)
     step true q n h = elim (Contains-cons_cases x (filter p xs) k n) [
       | inl s ↦ (Contains-head x xs k s, sym (ap p s) ∙ q)
       | inr t ↦ (Contains-tail x xs k (h t).0, (h t).1)

@@ -1,5 +1,6 @@
 -- One step of resolution, and what the last resolvent is.
-use Rattle.std.proofs.Common.{◌≡◌, ◌≢◌, ℕ, ◌<◌, ◌≤◌, ◌+◌, min, ◌⊎◌, inl, inr, List, length, take, get_or, Contains, All, Option, None, Some, map, refl, sym, subst, ap, ◌∙◌, arith}
+use Rattle.std.proofs.Common.{◌≡◌, ◌≢◌, ℕ, ◌<◌, ◌≤◌, ◌+◌, min, ◌⊎◌, inl, inr, List, length, take, get_or, Contains, All, Option, None, Some, map, refl, sym}
+use Rattle.std.proofs.Common.{subst, ap, ◌∙◌, arith}
 use Rattle.std.proofs.lemmas.Bool.{cases_eq, cases_lt}
 use Rattle.std.proofs.lemmas.List.{length-take, get_or-take, get_or_default, get_or-map}
 use Rattle.std.proofs.lemmas.List.Elements.{Contains-get_or, All-contains}
@@ -29,7 +30,8 @@ use Rattle.clause_learning.proofs.Reached.{named_live, named_is_live, clause_sea
 use Rattle.clause_learning.proofs.Resolvents.{true_from_take, true_take_cases, IsResolvent-pass}
 
 -- the literal at the place isn't a guess then
-pub not_guessed : (trail : State) (arena : Arena) (literals : List ℕ) (i : ℕ) (d : TrailEntry) → IsSearching trail arena → AreDistinct trail.entries → 0 < trail.level
+pub not_guessed : (trail : State) (arena : Arena) (literals : List ℕ) (i : ℕ) (d : TrailEntry) → IsSearching trail arena → AreDistinct trail.entries
+    → 0 < trail.level
     → i < length trail.entries → IsResolvent trail arena literals (i + 1) → HasOther trail literals (opposite_of (get_or trail.entries i d).literal)
     → (get_or trail.entries i d).reason ≡ None → ⊥
 not_guessed trail arena literals i d s distinct above below r (k, m, n, (a, e, q, was, (same_e, at))) none =
@@ -38,11 +40,14 @@ not_guessed trail arena literals i d s distinct above below r (k, m, n, (a, e, q
       | inl (j, x, p, is, same) ↦
           let short : j < min i (length trail.entries) = subst (λ z. j < z) (length-take i trail.entries) p in
           let first : get_or trail.entries j x ≡ x = sym (get_or-take i trail.entries j x (omega arith)) ∙ is in
-          let one : x ≡ e = same_entry trail.entries x e distinct (Contains-take trail.entries i x (j, p, is)) (a, q, was) (ap variable_of (same ∙ sym same_e)) in
-          let level : (get_or trail.entries j d).level ≡ e.level = ap (λ (y : TrailEntry). y.level) (get_or_default trail.entries j d x (omega arith) ∙ (first ∙ one)) in
+          let one : x ≡ e = same_entry trail.entries x e distinct (Contains-take trail.entries i x (j, p, is)) (a, q, was)
+          (ap variable_of (same ∙ sym same_e)) in
+          let level : (get_or trail.entries j d).level ≡ e.level = ap (λ (y : TrailEntry). y.level)
+          (get_or_default trail.entries j d x (omega arith) ∙ (first ∙ one)) in
           let rise : (get_or trail.entries j d).level ≤ (get_or trail.entries i d).level = s.searched.ascending j i d (omega arith) below in
           let top : (get_or trail.entries i d).level ≤ trail.level = s.searched.up_to i d below in
-          let guess : (get_or trail.entries j d).level < (get_or trail.entries i d).level = s.searched.guesses j i d (omega arith) below none (omega (arith, level, rise, at, above)) in
+          let guess : (get_or trail.entries j d).level < (get_or trail.entries i d).level =
+          s.searched.guesses j i d (omega arith) below none (omega (arith, level, rise, at, above)) in
           omega (arith, level, at, top, guess)
     ]
 
@@ -60,9 +65,11 @@ reason_at_place entries place q x reason distinct below is found =
     ]
 
 -- a literal q is resolved away, with the clause d that forced its opposite
-pub IsResolvent-step : (trail : State) (arena : Arena) (literals middle new d : List ℕ) (i q : ℕ) (x : TrailEntry) → IsSearching trail arena → i < length trail.entries
+pub IsResolvent-step : (trail : State) (arena : Arena) (literals middle new d : List ℕ) (i q : ℕ) (x : TrailEntry) → IsSearching trail arena
+    → i < length trail.entries
     → IsResolvent trail arena literals (i + 1) → q ≡ opposite_of (get_or trail.entries i x).literal → Contains literals q → HasOther trail literals q
-    → LiveIn arena d → AreBelow trail.variables d → Forces d (IsTrueOn (take i trail.entries)) (get_or trail.entries i x).literal → TakesOut literals middle q → Joins trail.entries middle d new
+    → LiveIn arena d → AreBelow trail.variables d → Forces d (IsTrueOn (take i trail.entries)) (get_or trail.entries i x).literal → TakesOut literals middle q
+    → Joins trail.entries middle d new
     → IsResolvent trail arena new i
 IsResolvent-step trail arena literals middle new d i q x s below r is has other live range forces takes joins = record {
   before = λ k m. elim (joins.from k m) [
@@ -128,7 +135,8 @@ Asserts-from trail arena literals place q back distinct r has low others reached
   member = has;
   newest = elim (cases_eq r.newest.0 q) [
     | inl e ↦ BecameFalse-from trail.entries trail.level q distinct (subst (λ (y : ℕ). IsOnLevel trail.entries trail.level (opposite_of y)) e r.newest.2)
-    | inr n ↦ (let first = on_level_first trail.entries trail.level back (opposite_of r.newest.0) distinct r.newest.2 (others r.newest.0 r.newest.1 n) in absurd (omega (arith, first, low)))
+    | inr n ↦ (let first = on_level_first trail.entries trail.level back (opposite_of r.newest.0) distinct r.newest.2 (others r.newest.0 r.newest.1 n) in
+        absurd (omega (arith, first, low)))
   ];
   others = others;
   back_below = low;
@@ -136,14 +144,16 @@ Asserts-from trail arena literals place q back distinct r has low others reached
 }
 
 -- a resolvent with one literal of the current level may be learned
-pub IsLearnable-from : (trail : State) (arena : Arena) (literals : List ℕ) (place q back : ℕ) → IsSearching trail arena → 0 < trail.level → IsResolvent trail arena literals place
+pub IsLearnable-from : (trail : State) (arena : Arena) (literals : List ℕ) (place q back : ℕ) → IsSearching trail arena → 0 < trail.level
+    → IsResolvent trail arena literals place
     → Asserts trail literals q back → IsLearnable (Searched trail arena) literals
 IsLearnable-from trail arena literals place q back s above r asserts = record {
   not_empty = λ e. Contains-nil q (subst (λ (xs : List ℕ). Contains xs q) e asserts.member);
   distinct = λ i j d h p same. elim (same_variable (get_or literals i d) (get_or literals j d) same) [
     | inl e ↦ r.once i j d h p e
     | inr e ↦ s.fits.consistent (get_or literals j d)
-        (subst (IsTrueOn trail.entries) (ap opposite_of e ∙ opposite_of-opposite_of (get_or literals j d)) (is_false (get_or literals i d) (Contains-get_or literals i d (omega (arith, h, p)))))
+        (subst (IsTrueOn trail.entries) (ap opposite_of e ∙ opposite_of-opposite_of (get_or literals j d))
+        (is_false (get_or literals i d) (Contains-get_or literals i d (omega (arith, h, p)))))
         (is_false (get_or literals j d) (Contains-get_or literals j d p))
   ];
   follows = IsImplied-follows (Searched trail arena) literals r.implied;
@@ -151,7 +161,8 @@ IsLearnable-from trail arena literals place q back s above r asserts = record {
       (λ known. s.fits.consistent q (known_true trail.entries back q known) (is_false q asserts.member)) asserts.others;
   occur = λ i d p. r.occur (get_or literals i d) (Contains-get_or literals i d p);
   undecided = λ i d p. IsClosed-undecided (Searched trail arena) (IsKnownAt trail.entries 0) (get_or literals i d) (s.searched.closed 0 above)
-      (λ known. s.fits.consistent (get_or literals i d) (known_true trail.entries 0 (get_or literals i d) known) (is_false (get_or literals i d) (Contains-get_or literals i d p)))
+      (λ known. s.fits.consistent (get_or literals i d) (known_true trail.entries 0 (get_or literals i d) known)
+      (is_false (get_or literals i d) (Contains-get_or literals i d p)))
       (r.above (get_or literals i d) (Contains-get_or literals i d p));
   joins_nothing = JoinsNone-nothing (Searched trail arena) literals r.joins;
 }
@@ -172,15 +183,18 @@ reason_there trail arena i q reason s distinct below at found =
     (reason_at_place trail.entries i q some_entry (Some reason) distinct below (at some_entry) found) (s.fits.reasons i some_entry below)
 
 -- it is live
-pub reason_live : (trail : State) (arena : Arena) (i q : ℕ) (reason : ClauseRef) → IsSearching trail arena → AreDistinct trail.entries → i < length trail.entries
+pub reason_live : (trail : State) (arena : Arena) (i q : ℕ) (reason : ClauseRef) → IsSearching trail arena → AreDistinct trail.entries
+    → i < length trail.entries
     → IsFalseAt trail.entries i q → IsReasonOf trail.entries (variable_of q) (Some reason) → IsLive arena reason.place
 reason_live trail arena i q reason s distinct below at found =
     (let there = reason_there trail arena i q reason s distinct below at found in named_is_live arena reason.place there.0 there.1)
 
 -- and what it lends is resolved with
-pub resolved : (trail : State) (arena : Arena) (literals middle new lent : List ℕ) (i q : ℕ) (reason : ClauseRef) → IsSearching trail arena → AreDistinct trail.entries
+pub resolved : (trail : State) (arena : Arena) (literals middle new lent : List ℕ) (i q : ℕ) (reason : ClauseRef) → IsSearching trail arena
+    → AreDistinct trail.entries
     → i < length trail.entries → IsResolvent trail arena literals (i + 1) → IsFalseAt trail.entries i q → Contains literals q → HasOther trail literals q
-    → IsReasonOf trail.entries (variable_of q) (Some reason) → ((clause : List ℕ) → Names arena reason.place clause → clause ≡ lent) → AreBelow arena.variables lent
+    → IsReasonOf trail.entries (variable_of q) (Some reason) → ((clause : List ℕ) → Names arena reason.place clause → clause ≡ lent)
+    → AreBelow arena.variables lent
     → TakesOut literals middle q → Joins trail.entries middle lent new → IsResolvent trail arena new i
 resolved trail arena literals middle new lent i q reason s distinct below r at has other found only range takes joins =
     let there = reason_there trail arena i q reason s distinct below at found in
@@ -198,14 +212,17 @@ has_reason trail arena literals i q s distinct above below r at other found =
     (reason_at_place trail.entries i q some_entry None distinct below (at some_entry) found)
 
 -- a literal that isn't in the resolvent is passed over
-pub passed : (trail : State) (arena : Arena) (literals : List ℕ) (i q : ℕ) → i < length trail.entries → IsResolvent trail arena literals (i + 1) → IsFalseAt trail.entries i q
+pub passed : (trail : State) (arena : Arena) (literals : List ℕ) (i q : ℕ) → i < length trail.entries → IsResolvent trail arena literals (i + 1)
+    → IsFalseAt trail.entries i q
     → (Contains literals q → ⊥) → IsResolvent trail arena literals i
 passed trail arena literals i q below r at absent =
     IsResolvent-pass trail arena literals i some_entry below r (λ m. absent (subst (Contains literals) (sym (at some_entry)) m))
 
 -- each literal of a resolvent is false, and in range
-pub resolvent_false : (trail : State) (arena : Arena) (literals : List ℕ) (i : ℕ) → IsResolvent trail arena literals i → All (λ (k : ℕ). IsTrueOn trail.entries (opposite_of k)) literals
-resolvent_false trail arena literals i r k d p = true_from_take trail.entries i (opposite_of (get_or literals k d)) (r.before (get_or literals k d) (Contains-get_or literals k d p))
+pub resolvent_false : (trail : State) (arena : Arena) (literals : List ℕ) (i : ℕ) → IsResolvent trail arena literals i
+    → All (λ (k : ℕ). IsTrueOn trail.entries (opposite_of k)) literals
+resolvent_false trail arena literals i r k d p = true_from_take trail.entries i (opposite_of (get_or literals k d))
+    (r.before (get_or literals k d) (Contains-get_or literals k d p))
 
 pub resolvent_below : (trail : State) (arena : Arena) (literals : List ℕ) (i : ℕ) → IsResolvent trail arena literals i → AreBelow trail.variables literals
 resolvent_below trail arena literals i r k d p = r.in_range (get_or literals k d) (Contains-get_or literals k d p)
@@ -217,7 +234,8 @@ false_at entries literals i q lent below is d =
     is ∙ ap opposite_of (ap (λ (xs : List ℕ). get_or xs i 0) lent ∙ get_or-map (λ (e : TrailEntry). e.literal) entries i d 0 below)
 
 -- a literal of the resolvent that became false at its last place is of the current level
-pub on_level_here : (trail : State) (arena : Arena) (literals : List ℕ) (i q : ℕ) → IsSearching trail arena → AreDistinct trail.entries → i < length trail.entries
+pub on_level_here : (trail : State) (arena : Arena) (literals : List ℕ) (i q : ℕ) → IsSearching trail arena → AreDistinct trail.entries
+    → i < length trail.entries
     → IsResolvent trail arena literals (i + 1) → IsFalseAt trail.entries i q → IsOnLevel trail.entries trail.level (opposite_of q)
 on_level_here trail arena literals i q s distinct below r at =
     elim (true_take_cases trail.entries i (opposite_of k) some_entry below (r.before k r.newest.1)) [
@@ -232,19 +250,24 @@ on_level_here trail arena literals i q s distinct below r at =
     forced_is : opposite_of q ≡ (get_or trail.entries i some_entry).literal
     forced_is = ap opposite_of (at some_entry) ∙ opposite_of-opposite_of (get_or trail.entries i some_entry).literal
 
-    level_here : (j : ℕ) (x : TrailEntry) → j < length (take i trail.entries) → get_or (take i trail.entries) j x ≡ x → x.literal ≡ opposite_of k → IsOnLevel trail.entries trail.level (opposite_of k)
+    level_here : (j : ℕ) (x : TrailEntry) → j < length (take i trail.entries) → get_or (take i trail.entries) j x ≡ x → x.literal ≡ opposite_of k
+        → IsOnLevel trail.entries trail.level (opposite_of k)
         → (get_or trail.entries i some_entry).level ≡ trail.level
     level_here j x p is same (a, e, q', was, (same_e, on)) =
         let short : j < min i (length trail.entries) = subst (λ z. j < z) (length-take i trail.entries) p in
         let first : get_or trail.entries j x ≡ x = sym (get_or-take i trail.entries j x (omega arith)) ∙ is in
-        let one : x ≡ e = same_entry trail.entries x e distinct (Contains-take trail.entries i x (j, p, is)) (a, q', was) (ap variable_of (same ∙ sym same_e)) in
-        let level : (get_or trail.entries j some_entry).level ≡ e.level = ap (λ (y : TrailEntry). y.level) (get_or_default trail.entries j some_entry x (omega arith) ∙ (first ∙ one)) in
-        let rise : (get_or trail.entries j some_entry).level ≤ (get_or trail.entries i some_entry).level = s.searched.ascending j i some_entry (omega arith) below in
+        let one : x ≡ e = same_entry trail.entries x e distinct (Contains-take trail.entries i x (j, p, is)) (a, q', was)
+        (ap variable_of (same ∙ sym same_e)) in
+        let level : (get_or trail.entries j some_entry).level ≡ e.level =
+        ap (λ (y : TrailEntry). y.level) (get_or_default trail.entries j some_entry x (omega arith) ∙ (first ∙ one)) in
+        let rise : (get_or trail.entries j some_entry).level ≤ (get_or trail.entries i some_entry).level =
+        s.searched.ascending j i some_entry (omega arith) below in
         let top : (get_or trail.entries i some_entry).level ≤ trail.level = s.searched.up_to i some_entry below in
         omega (arith, level, rise, top, on)
 
 -- the same literals in another list
-pub IsResolvent-listed : (trail : State) (arena : Arena) (old new : List ℕ) (place : ℕ) → IsResolvent trail arena old place → ((k : ℕ) → Contains old k → Contains new k)
+pub IsResolvent-listed : (trail : State) (arena : Arena) (old new : List ℕ) (place : ℕ) → IsResolvent trail arena old place
+    → ((k : ℕ) → Contains old k → Contains new k)
     → ((k : ℕ) → Contains new k → Contains old k) → DifferInPairs new → IsResolvent trail arena new place
 IsResolvent-listed trail arena old new place r to from once = record {
   before = λ k m. r.before k (from k m);
@@ -262,11 +285,13 @@ IsResolvent-listed trail arena old new place r to from once = record {
 }
 
 -- what is found at the end
-pub lesson_found : (trail : State) (arena : Arena) (literals : List ℕ) (place q back : ℕ) → IsSearching trail arena → AreDistinct trail.entries → 0 < trail.level
+pub lesson_found : (trail : State) (arena : Arena) (literals : List ℕ) (place q back : ℕ) → IsSearching trail arena → AreDistinct trail.entries
+    → 0 < trail.level
     → IsResolvent trail arena literals place → Contains literals q → (HasOther trail literals q → ⊥)
     → ((k : ℕ) → Contains literals k → k ≢ q → IsKnownAt trail.entries back (opposite_of k))
     → (back ≡ 0) ⊎ ((k : ℕ) × Contains literals k × (k ≢ q) × BecameFalse trail.entries back k) → IsLesson (Searched trail arena) trail literals q back
 lesson_found trail arena literals place q back s distinct above r has alone known reached =
-    let low : back < trail.level = elim (cases_lt back trail.level) [ inl h ↦ h | inr h ↦ absurd (alone (other_on_level trail arena literals q back s above h reached)) ] in
+    let low : back < trail.level = elim (cases_lt back trail.level)
+    [ inl h ↦ h | inr h ↦ absurd (alone (other_on_level trail arena literals q back s above h reached)) ] in
     let asserts : Asserts trail literals q back = Asserts-from trail arena literals place q back distinct r has low known reached in
     record { learnable = IsLearnable-from trail arena literals place q back s above r asserts; asserts = asserts }

@@ -5,8 +5,6 @@ mod analysis;
 mod falsity;
 mod lesson;
 mod resolving;
-#[cfg(test)]
-mod tests;
 
 pub use analysis::{Marks, analyse};
 pub use lesson::Lesson;

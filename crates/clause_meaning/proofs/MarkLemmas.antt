@@ -25,7 +25,7 @@ pub HasMark-gone_cases : (marks : List Bool) (l k : ℕ) → l < length marks �
 HasMark-gone_cases marks l k h m =
     elim (cases_eq k l) [
       | inl e ↦ (let same = ap (λ (i : ℕ). get_or (set marks l false) i false) e in
-      absurd (false≢true (sym (same ∙ get_or-set_same marks l false false h) ∙ m)))
+          absurd (false≢true (sym (same ∙ get_or-set_same marks l false false h) ∙ m)))
       | inr n ↦ (n, sym (get_or-set_other marks l k false false n) ∙ m)
     ]
 

@@ -34,7 +34,8 @@ link_from : (p : ℕ) (s t : Term) (f : Fact) → IsOfFact (atom.Link p s t) f �
 link_from p s t (fact.Concept q c) h = h
 link_from p s t (fact.Link q c d) h = h
 
-pub of_concept : (facts : List Fact) (a : QAtom) (p : ℕ) (t : Term) → a ≡ atom.Concept p t → (numbers : List ℕ) → AreNumbers (HasPred kind.Concept p) facts numbers
+pub of_concept : (facts : List Fact) (a : QAtom) (p : ℕ) (t : Term) → a ≡ atom.Concept p t → (numbers : List ℕ)
+    → AreNumbers (HasPred kind.Concept p) facts numbers
     → (n : ℕ) → Contains numbers n ↔ ((f : Fact) × IsOfFact a f × (slice_get facts n ≡ Some f))
 of_concept facts a p t e numbers are n = (
   (λ c. let w = (are.exact n).0 c in (w.0, subst (λ (x : QAtom). IsOfFact x w.0) (sym e) (concept_to p t w.0 w.1), w.2)),

@@ -36,11 +36,13 @@ map_from f (x ∷ xs) y c = elim (Contains-cases (f x) (map f xs) y c) [
   | inr d ↦ let w = map_from f xs y d in (w.0, Contains-later x xs w.0 w.1, w.2)
 ]
 
-pub pairs_map : {X Y : Type 0} (R : X → X → Type 0) (S : Y → Y → Type 0) (f : X → Y) (xs : List X) → AllPairs R xs → ((x z : X) → Contains xs x → Contains xs z → R x z → S (f x) (f z)) → AllPairs S (map f xs)
+pub pairs_map : {X Y : Type 0} (R : X → X → Type 0) (S : Y → Y → Type 0) (f : X → Y) (xs : List X) → AllPairs R xs
+    → ((x z : X) → Contains xs x → Contains xs z → R x z → S (f x) (f z)) → AllPairs S (map f xs)
 pairs_map R S f [] a h = λ i j d ij l. absurd (omega arith)
 pairs_map R S f (x ∷ xs) a h =
     AllPairs-cons S (f x) (map f xs)
-    (All-of (S (f x)) (map f xs) (λ y c. let w = map_from f xs y c in subst (S (f x)) (sym w.2) (h x w.0 (Contains-head x xs) (Contains-later x xs w.0 w.1) (All-contains (R x) xs w.0 (AllPairs-head R x xs a) w.1))))
+    (All-of (S (f x)) (map f xs) (λ y c. let w = map_from f xs y c in
+    subst (S (f x)) (sym w.2) (h x w.0 (Contains-head x xs) (Contains-later x xs w.0 w.1) (All-contains (R x) xs w.0 (AllPairs-head R x xs a) w.1))))
     (pairs_map R S f xs (AllPairs-tail R x xs a) (λ u v c d. h u v (Contains-later x xs u c) (Contains-later x xs v d)))
 
 -- ---- which facts clash
@@ -115,7 +117,8 @@ unfolding IsStrictlySortedBy
 entries_ascend [] s = λ i j d ij l. absurd (omega arith)
 entries_ascend (e ∷ es) s = AllPairs-cons IsLess e es (All-of (IsLess e) es (first es s.0)) (entries_ascend es s.1)
   where
-    first : (fs : List (ClashFacts × Source)) → AllByRecursion (λ k. facts_cmp e.0 k ≡ Less) (keys_of fs) → (f : ClashFacts × Source) → Contains fs f → IsLess e f
+    first : (fs : List (ClashFacts × Source)) → AllByRecursion (λ k. facts_cmp e.0 k ≡ Less) (keys_of fs) → (f : ClashFacts × Source) → Contains fs f
+        → IsLess e f
     first [] h f c = absurd (Contains-nil f c)
     first (x ∷ fs) h f c = elim (Contains-cases x fs f c) [ inl q ↦ subst (IsLess e) q h.0 | inr d ↦ first fs h.1 f d ]
 
@@ -135,7 +138,8 @@ pub owns_ascend : (es : List (ClashFacts × Source)) → AllPairs IsLess es → 
 owns_ascend [] a = λ i j d ij l. absurd (omega arith)
 owns_ascend ((One i, s) ∷ es) a =
     AllPairs-cons (λ x y. x < y) i (own_facts (map clash_of es))
-    (All-of (λ y. i < y) (own_facts (map clash_of es)) (λ y c. let w = own_there es y c in less_one i y (All-contains (IsLess (One i, s)) es (One y, w.0) (AllPairs-head IsLess (One i, s) es a) w.1)))
+    (All-of (λ y. i < y) (own_facts (map clash_of es)) (λ y c. let w = own_there es y c in
+    less_one i y (All-contains (IsLess (One i, s)) es (One y, w.0) (AllPairs-head IsLess (One i, s) es a) w.1)))
     (owns_ascend es (AllPairs-tail IsLess (One i, s) es a))
 owns_ascend ((Two i j, s) ∷ es) a = owns_ascend es (AllPairs-tail IsLess (Two i j, s) es a)
 
@@ -144,7 +148,8 @@ couples_ascend [] a = λ i j d ij l. absurd (omega arith)
 couples_ascend ((One i, s) ∷ es) a = couples_ascend es (AllPairs-tail IsLess (One i, s) es a)
 couples_ascend ((Two i j, s) ∷ es) a =
     AllPairs-cons IsBefore (i, j) (couples (map clash_of es))
-    (All-of (IsBefore (i, j)) (couples (map clash_of es)) (λ p c. let w = couple_there es p.0 p.1 c in less_two i j p.0 p.1 (All-contains (IsLess (Two i j, s)) es (Two p.0 p.1, w.0) (AllPairs-head IsLess (Two i j, s) es a) w.1)))
+    (All-of (IsBefore (i, j)) (couples (map clash_of es)) (λ p c. let w = couple_there es p.0 p.1 c in
+    less_two i j p.0 p.1 (All-contains (IsLess (Two i j, s)) es (Two p.0 p.1, w.0) (AllPairs-head IsLess (Two i j, s) es a) w.1)))
     (couples_ascend es (AllPairs-tail IsLess (Two i j, s) es a))
 
 -- a lesser key has no more facts

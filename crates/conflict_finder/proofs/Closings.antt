@@ -1,5 +1,6 @@
 -- The closures of the first axioms.
-use Rattle.std.proofs.Common.{◌≡◌, ℕ, suc, ◌<◌, ◌≤◌, List, [], ◌∷◌, ◌++◌, length, Contains, ◌⊎◌, inl, inr, slice_get, Some, None, sym, ap, ◌∙◌, subst, arith, AllPairs}
+use Rattle.std.proofs.Common.{◌≡◌, ℕ, suc, ◌<◌, ◌≤◌, List, [], ◌∷◌, ◌++◌, length, Contains, ◌⊎◌, inl, inr, slice_get, Some, None, sym, ap, ◌∙◌, subst, arith}
+use Rattle.std.proofs.Common.{AllPairs}
 use Rattle.std.specs.List.{All}
 use Rattle.std.proofs.lemmas.Bool.{cases_lt}
 use Rattle.std.proofs.lemmas.List.{length-map}
@@ -21,7 +22,8 @@ use Rattle.conflict_finder.specs.Finding.{Forbids, AreClosures, IsClosureOf, IsF
 use Rattle.conflict_finder.proofs.Pigeons.{not_longer}
 
 -- a closure within the limit isn't too large
-pub closure_fits : (axioms : List Axiom) (q : Query) (members : List Member) (limit : ℕ) → IsClosure axioms q (queries_of members) → length members ≤ limit → HasMoreThan axioms q limit → ⊥
+pub closure_fits : (axioms : List Axiom) (q : Query) (members : List Member) (limit : ℕ) → IsClosure axioms q (queries_of members) → length members ≤ limit
+    → HasMoreThan axioms q limit → ⊥
 closure_fits axioms q members limit is few more =
     let within = not_longer more.items (queries_of members) more.apart (λ r c. (is r).1 (All-contains (IsInClosure axioms q) more.items r more.each c)) in
     omega (arith, within, few, more.longer, length-map members (λ (m : Member). m.query))
@@ -49,9 +51,11 @@ module _ (axioms : List Axiom) (limit : ℕ) where
   one_rule : (n : ℕ) (a b : Axiom) → slice_get axioms n ≡ Some a → slice_get axioms n ≡ Some b → a ≡ b
   one_rule n a b e f = some_inj (sym e ∙ f)
 
-  module _ (i : ℕ) (rule : Axiom) (at : slice_get axioms i ≡ Some rule) (closures : List (ℕ × List Member)) (so : AreFirstClosures axioms limit i closures) where
+  module _ (i : ℕ) (rule : Axiom) (at : slice_get axioms i ≡ Some rule) (closures : List (ℕ × List Member))
+      (so : AreFirstClosures axioms limit i closures) where
     below_more : All (λ (c : ℕ × List Member). c.0 < suc i) closures
-    below_more = All-of (λ (c : ℕ × List Member). c.0 < suc i) closures (λ c there. let l = All-contains (λ (d : ℕ × List Member). d.0 < i) closures c so.below there in omega (arith, l))
+    below_more = All-of (λ (c : ℕ × List Member). c.0 < suc i) closures
+        (λ c there. let l = All-contains (λ (d : ℕ × List Member). d.0 < i) closures c so.below there in omega (arith, l))
 
     rule_is : (n : ℕ) (q : Query) → n ≡ i → Forbids axioms n q → disjointness_query rule ≡ Some q
     rule_is n q e (r, g, d) = ap disjointness_query (sym (one_rule i r rule (subst (λ k. slice_get axioms k ≡ Some r) e g) at)) ∙ d
@@ -77,13 +81,17 @@ module _ (axioms : List Axiom) (limit : ℕ) where
         fit n q f m (inl l) k = so.fit n q l f m
         fit n q f m (inr l) k = never n q (omega arith) f
 
-    pub first_disjointness : (members : List Member) → IsClosureOf axioms rule limit (Some members) → AreFirstClosures axioms limit (suc i) (closures ++ (i, members) ∷ [])
+    pub first_disjointness : (members : List Member) → IsClosureOf axioms rule limit (Some members)
+        → AreFirstClosures axioms limit (suc i) (closures ++ (i, members) ∷ [])
     first_disjointness members (q, d, closes, whole, within) = record {
-      derived = All-of (λ (c : ℕ × List Member). IsDerivation c.1) (closures ++ (i, members) ∷ []) (λ c there. sound c (append_cases closures ((i, members) ∷ []) c there));
-      each = All-of (λ (c : ℕ × List Member). (p : Query) × Forbids axioms c.0 p × Closes axioms p c.1) (closures ++ (i, members) ∷ []) (λ c there. each c (append_cases closures ((i, members) ∷ []) c there));
+      derived = All-of (λ (c : ℕ × List Member). IsDerivation c.1) (closures ++ (i, members) ∷ [])
+          (λ c there. sound c (append_cases closures ((i, members) ∷ []) c there));
+      each = All-of (λ (c : ℕ × List Member). (p : Query) × Forbids axioms c.0 p × Closes axioms p c.1) (closures ++ (i, members) ∷ [])
+          (λ c there. each c (append_cases closures ((i, members) ∷ []) c there));
       complete = λ n p l f. by n p f (cases_lt n i) l;
       ascending = all_pairs_push (λ (c e : ℕ × List Member). c.0 < e.0) closures (i, members) so.ascending so.below;
-      below = All-of (λ (c : ℕ × List Member). c.0 < suc i) (closures ++ (i, members) ∷ []) (λ c there. low c (append_cases closures ((i, members) ∷ []) c there));
+      below = All-of (λ (c : ℕ × List Member). c.0 < suc i) (closures ++ (i, members) ∷ [])
+          (λ c there. low c (append_cases closures ((i, members) ∷ []) c there));
       fit = λ n p l f m. fit n p f m (cases_lt n i) l;
     }
       where
@@ -110,14 +118,19 @@ module _ (axioms : List Axiom) (limit : ℕ) where
 
         by : (n : ℕ) (p : Query) → Forbids axioms n p → (n < i) ⊎ (i ≤ n) → n < suc i → (ms : List Member) × Contains (closures ++ (i, members) ∷ []) (n, ms)
         by n p f (inl l) k = let w = so.complete n p l f in (w.0, append_left closures ((i, members) ∷ []) (n, w.0) w.1)
-        by n p f (inr l) k = let e : n ≡ i = omega arith in (members, append_right closures ((i, members) ∷ []) (n, members) (Contains-one (i, members) (n, members) (ap (λ j. (j, members)) e)))
+        by n p f (inr l) k = let e : n ≡ i = omega arith in (
+          members,
+          append_right closures ((i, members) ∷ []) (n, members) (Contains-one (i, members) (n, members) (ap (λ j. (j, members)) e)),
+        )
 
         fit : (n : ℕ) (p : Query) → Forbids axioms n p → HasMoreThan axioms p limit → (n < i) ⊎ (i ≤ n) → n < suc i → ⊥
         fit n p f m (inl l) k = so.fit n p l f m
-        fit n p f m (inr l) k = let same : q ≡ p = some_inj (sym d ∙ rule_is n p (omega arith) f) in within (subst (λ (x : Query). HasMoreThan axioms x limit) (sym same) m)
+        fit n p f m (inr l) k = let same : q ≡ p = some_inj (sym d ∙ rule_is n p (omega arith) f) in
+            within (subst (λ (x : Query). HasMoreThan axioms x limit) (sym same) m)
 
     pub too_large : (n : ℕ) → (n ≡ i) × ((q : Query) × (disjointness_query rule ≡ Some q) × HasMoreThan axioms q limit) → IsFirstTooLarge axioms limit n
-    too_large n (e, (q, d, m)) = subst (IsFirstTooLarge axioms limit) (sym e) (record { query = q; forbids = (rule, at, d); larger = m; earlier = λ k p l f. so.fit k p l f })
+    too_large n (e, (q, d, m)) = subst (IsFirstTooLarge axioms limit) (sym e)
+        (record { query = q; forbids = (rule, at, d); larger = m; earlier = λ k p l f. so.fit k p l f })
 
   pub first_all : (i : ℕ) → length axioms ≤ i → (closures : List (ℕ × List Member)) → AreFirstClosures axioms limit i closures → AreClosures axioms closures
   first_all i l closures so = record {

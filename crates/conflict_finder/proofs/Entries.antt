@@ -47,8 +47,13 @@ pub has_key : (k : ClashFacts) (es : List (ClashFacts × Source)) → is_some (l
 has_key k [] e = cc
 has_key k (x ∷ es) e = go (is_eq (facts_cmp k x.0)) refl e (λ f. has_key k es f)
   where
-    go : (b : Bool) → is_eq (facts_cmp k x.0) ≡ b → is_some (cond b (Some x.1) (lookup (is_at (facts_cmp k)) es)) ≡ true → (is_some (lookup (is_at (facts_cmp k)) es) ≡ true → HasKey es k) → HasKey (x ∷ es) k
-    go true q f again = (x.1, subst (λ (z : ClashFacts). Contains (x ∷ es) (z, x.1)) (sym (facts_exact k x.0 (is_equal (facts_cmp k x.0) q))) (Contains-head x es))
+    go : (b : Bool) → is_eq (facts_cmp k x.0) ≡ b → is_some (cond b (Some x.1) (lookup (is_at (facts_cmp k)) es)) ≡ true
+        → (is_some (lookup (is_at (facts_cmp k)) es) ≡ true → HasKey es k) → HasKey (x ∷ es) k
+    go true q f again = (
+      x.1,
+      subst (λ (z : ClashFacts). Contains (x ∷ es) (z, x.1)) (sym (facts_exact k x.0 (is_equal (facts_cmp k x.0) q)))
+          (Contains-head x es),
+    )
     go false q f again = let w = again f in (w.0, Contains-later x es (k, w.0) w.1)
 
 pub has_no_key : (k : ClashFacts) (es : List (ClashFacts × Source)) → is_some (lookup (is_at (facts_cmp k)) es) ≡ false → HasKey es k → ⊥
@@ -59,11 +64,13 @@ has_no_key k (x ∷ es) e (s, c) = go (is_eq (facts_cmp k x.0)) refl e (λ f d. 
         → (is_some (lookup (is_at (facts_cmp k)) es) ≡ false → Contains es (k, s) → ⊥) → (x ≡ (k, s)) ⊎ Contains es (k, s) → ⊥
     go true q f again here = cc
     go false q f again (inr d) = again f d
-    go false q f again (inl d) = let same : is_eq (facts_cmp k k) ≡ true = ap is_eq (facts_same k) in let at : is_eq (facts_cmp k k) ≡ false = subst (λ (z : ClashFacts × Source). is_eq (facts_cmp k z.0) ≡ false) d q in cc
+    go false q f again (inl d) = let same : is_eq (facts_cmp k k) ≡ true = ap is_eq (facts_same k) in let at : is_eq (facts_cmp k k) ≡ false =
+        subst (λ (z : ClashFacts × Source). is_eq (facts_cmp k z.0) ≡ false) d q in cc
 
 -- ---- a new entry
 
-chosen : (o : Ordering) (less equal greater : List (ClashFacts × Source)) (P : List (ClashFacts × Source) → Type 0) → (o ≡ Less → P less) → (o ≡ Equal → P equal) → (o ≡ Greater → P greater) → P (match_ordering o less equal greater)
+chosen : (o : Ordering) (less equal greater : List (ClashFacts × Source)) (P : List (ClashFacts × Source) → Type 0) → (o ≡ Less → P less)
+    → (o ≡ Equal → P equal) → (o ≡ Greater → P greater) → P (match_ordering o less equal greater)
 chosen Less less equal greater P f g h = f refl
 chosen Equal less equal greater P f g h = g refl
 chosen Greater less equal greater P f g h = h refl
@@ -75,7 +82,8 @@ module _ (k : ClashFacts) (s : Source) where
   not_equal : (x : ClashFacts × Source) (es : List (ClashFacts × Source)) → (HasKey (x ∷ es) k → ⊥) → facts_cmp k x.0 ≡ Equal → ⊥
   not_equal x es n e = n (x.1, subst (λ (z : ClashFacts). Contains (x ∷ es) (z, x.1)) (sym (facts_exact k x.0 e)) (Contains-head x es))
 
-  pub insert_keeps : (es : List (ClashFacts × Source)) → (HasKey es k → ⊥) → (y : ClashFacts × Source) → Contains es y → Contains (insert_entry facts_cmp es k s) y
+  pub insert_keeps : (es : List (ClashFacts × Source)) → (HasKey es k → ⊥) → (y : ClashFacts × Source) → Contains es y
+      → Contains (insert_entry facts_cmp es k s) y
   insert_keeps [] n y c = absurd (Contains-nil y c)
   insert_keeps (x ∷ es) n y c = chosen (facts_cmp k x.0) ((k, s) ∷ x ∷ es) ((x.0, s) ∷ es) (x ∷ insert_entry facts_cmp es k s) (λ zs. Contains zs y)
       (λ e. Contains-later (k, s) (x ∷ es) y c)
@@ -93,13 +101,15 @@ module _ (k : ClashFacts) (s : Source) where
       (λ e. absurd (not_equal x es n e))
       (λ e. Contains-later x (insert_entry facts_cmp es k s) (k, s) (insert_there es (absent_later x es n)))
 
-  pub insert_only : (es : List (ClashFacts × Source)) → (HasKey es k → ⊥) → (y : ClashFacts × Source) → Contains (insert_entry facts_cmp es k s) y → Contains es y ⊎ (y ≡ (k, s))
+  pub insert_only : (es : List (ClashFacts × Source)) → (HasKey es k → ⊥) → (y : ClashFacts × Source) → Contains (insert_entry facts_cmp es k s) y
+      → Contains es y ⊎ (y ≡ (k, s))
   insert_only [] n y c = inr (by (Contains-cases (k, s) [] y c))
     where
       by : ((k, s) ≡ y) ⊎ Contains [] y → y ≡ (k, s)
       by (inl e) = sym e
       by (inr d) = absurd (Contains-nil y d)
-  insert_only (x ∷ es) n y c0 = chosen (facts_cmp k x.0) ((k, s) ∷ x ∷ es) ((x.0, s) ∷ es) (x ∷ insert_entry facts_cmp es k s) (λ zs. Contains zs y → Contains (x ∷ es) y ⊎ (y ≡ (k, s)))
+  insert_only (x ∷ es) n y c0 = chosen (facts_cmp k x.0) ((k, s) ∷ x ∷ es) ((x.0, s) ∷ es) (x ∷ insert_entry facts_cmp es k s)
+      (λ zs. Contains zs y → Contains (x ∷ es) y ⊎ (y ≡ (k, s)))
       (λ e c. first (Contains-cases (k, s) (x ∷ es) y c))
       (λ e. absurd (not_equal x es n e))
       (λ e c. later (Contains-cases x (insert_entry facts_cmp es k s) y c) (insert_only es (absent_later x es n) y))
@@ -109,7 +119,8 @@ module _ (k : ClashFacts) (s : Source) where
       first (inl e) = inr (sym e)
       first (inr d) = inl d
 
-      later : (x ≡ y) ⊎ Contains (insert_entry facts_cmp es k s) y → (Contains (insert_entry facts_cmp es k s) y → Contains es y ⊎ (y ≡ (k, s))) → Contains (x ∷ es) y ⊎ (y ≡ (k, s))
+      later : (x ≡ y) ⊎ Contains (insert_entry facts_cmp es k s) y → (Contains (insert_entry facts_cmp es k s) y → Contains es y ⊎ (y ≡ (k, s)))
+          → Contains (x ∷ es) y ⊎ (y ≡ (k, s))
       later (inl e) again = inl (subst (Contains (x ∷ es)) e (Contains-head x es))
       later (inr d) again = elim (again d) [ inl f ↦ inl (Contains-later x es y f) | inr f ↦ inr f ]
 
@@ -131,10 +142,15 @@ noted_new k s es n = record {
   where
     by : (e : ClashFacts × Source) → Contains es e ⊎ (e ≡ (k, s)) → Contains es e ⊎ ((e.0 ≡ k) × (HasKey es e.0 → ⊥) × (e.1 ≡ s))
     by e (inl c) = inl c
-    by e (inr p) = inr (ap (λ (z : ClashFacts × Source). z.0) p, subst (λ (z : ClashFacts × Source). HasKey es z.0 → ⊥) (sym p) n, ap (λ (z : ClashFacts × Source). z.1) p)
+    by e (inr p) = inr (
+      ap (λ (z : ClashFacts × Source). z.0) p,
+      subst (λ (z : ClashFacts × Source). HasKey es z.0 → ⊥) (sym p) n,
+      ap (λ (z : ClashFacts × Source). z.1) p,
+    )
 
 -- what is added under one condition is added under one that says the same
-pub adds_like : (P Q : ClashFacts → Type 0) (s : Source) (old new : List (ClashFacts × Source)) → ((k : ClashFacts) → P k → Q k) → ((k : ClashFacts) → Q k → P k) → AddsNew P s old new → AddsNew Q s old new
+pub adds_like : (P Q : ClashFacts → Type 0) (s : Source) (old new : List (ClashFacts × Source)) → ((k : ClashFacts) → P k → Q k)
+    → ((k : ClashFacts) → Q k → P k) → AddsNew P s old new → AddsNew Q s old new
 adds_like P Q s old new f g adds = record {
   kept = adds.kept;
   right = λ e c. by e (adds.right e c);
@@ -150,18 +166,21 @@ pub adds_none : (P : ClashFacts → Type 0) (s : Source) (old : List (ClashFacts
 adds_none P s old n = record { kept = λ e c. c; right = λ e c. inl c; complete = λ k p. absurd (n k p) }
 
 -- one after the other
-pub adds_then : (P Q : ClashFacts → Type 0) (s : Source) (old mid new : List (ClashFacts × Source)) → AddsNew P s old mid → AddsNew Q s mid new → AddsNew (λ k. P k ⊎ Q k) s old new
+pub adds_then : (P Q : ClashFacts → Type 0) (s : Source) (old mid new : List (ClashFacts × Source)) → AddsNew P s old mid → AddsNew Q s mid new
+    → AddsNew (λ k. P k ⊎ Q k) s old new
 adds_then P Q s old mid new first second = record {
   kept = λ e c. second.kept e (first.kept e c);
   right = λ e c. by e (second.right e c);
   complete = λ k pq. all k pq;
 }
   where
-    before : (e : ClashFacts × Source) → Contains old e ⊎ (P e.0 × (HasKey old e.0 → ⊥) × (e.1 ≡ s)) → Contains old e ⊎ ((P e.0 ⊎ Q e.0) × (HasKey old e.0 → ⊥) × (e.1 ≡ s))
+    before : (e : ClashFacts × Source) → Contains old e ⊎ (P e.0 × (HasKey old e.0 → ⊥) × (e.1 ≡ s)) → Contains old e
+        ⊎ ((P e.0 ⊎ Q e.0) × (HasKey old e.0 → ⊥) × (e.1 ≡ s))
     before e (inl c) = inl c
     before e (inr (p, n, q)) = inr (inl p, n, q)
 
-    by : (e : ClashFacts × Source) → Contains mid e ⊎ (Q e.0 × (HasKey mid e.0 → ⊥) × (e.1 ≡ s)) → Contains old e ⊎ ((P e.0 ⊎ Q e.0) × (HasKey old e.0 → ⊥) × (e.1 ≡ s))
+    by : (e : ClashFacts × Source) → Contains mid e ⊎ (Q e.0 × (HasKey mid e.0 → ⊥) × (e.1 ≡ s)) → Contains old e
+        ⊎ ((P e.0 ⊎ Q e.0) × (HasKey old e.0 → ⊥) × (e.1 ≡ s))
     by e (inl c) = before e (first.right e c)
     by e (inr (p, n, q)) = inr (inr p, (λ (t, c). n (t, first.kept (e.0, t) c)), q)
 

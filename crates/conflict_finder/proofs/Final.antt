@@ -27,9 +27,11 @@ use Rattle.conflict_finder.proofs.Scanning.{more_weaker}
 use Rattle.conflict_finder.proofs.Pigeons.{not_longer}
 use Rattle.conflict_finder.proofs.Joins.{some_number, not_three, ascend_two}
 use Rattle.conflict_finder.proofs.Forbidding.{AreDerivations, all_short, own_shown, shown_own, conflict_shown, shown_conflict, image_within}
-use Rattle.conflict_finder.proofs.Clashing.{map_to, map_from, own_there, own_back, couple_there, couple_back, entries_ascend, owns_ascend, couples_ascend, owns_first}
+use Rattle.conflict_finder.proofs.Clashing.{map_to, map_from, own_there, own_back, couple_there, couple_back, entries_ascend, owns_ascend, couples_ascend}
+use Rattle.conflict_finder.proofs.Clashing.{owns_first}
 
-module _ (law : ClosingListIsClosure) (axioms : List Axiom) (facts : List Fact) (distinct : AreDistinct facts) (closures : List (ℕ × List Member)) (are : AreClosures axioms closures) (derived : AreDerivations closures) where
+module _ (law : ClosingListIsClosure) (axioms : List Axiom) (facts : List Fact) (distinct : AreDistinct facts) (closures : List (ℕ × List Member))
+    (are : AreClosures axioms closures) (derived : AreDerivations closures) where
   -- ---- facts alone
 
   own_set : (i n p : ℕ) → Shows facts closures n p (i ∷ []) → IsConflict (kb_of axioms facts) (i ∷ [])
@@ -48,7 +50,8 @@ module _ (law : ClosingListIsClosure) (axioms : List Axiom) (facts : List Fact) 
       by set (inl (k, (s, c), e)) = absurd (Contains-nil (k, s) c)
       by set (inr (l, (n, p, s))) = one set l n p s
 
-module _ (law : ClosingListIsClosure) (axioms : List Axiom) (facts : List Fact) (distinct : AreDistinct facts) (closures : List (ℕ × List Member)) (are : AreClosures axioms closures) (derived : AreDerivations closures)
+module _ (law : ClosingListIsClosure) (axioms : List Axiom) (facts : List Fact) (distinct : AreDistinct facts) (closures : List (ℕ × List Member))
+    (are : AreClosures axioms closures) (derived : AreDerivations closures)
     (none : List ℕ) (alone : List (ClashFacts × Source)) (first : IsScanned facts closures Singles none (λ m p. Unit {0}) [] alone) where
   alone_shown : (i : ℕ) → HasKey alone (One i) → (n : ℕ) × (p : ℕ) × Shows facts closures n p (i ∷ [])
   alone_shown i (s, c) =
@@ -75,7 +78,8 @@ module _ (law : ClosingListIsClosure) (axioms : List Axiom) (facts : List Fact) 
 
     member_short : (n p : ℕ) (set : List ℕ) → (s : Shows facts closures n p set) → IsShort s.1.query
     member_short n p set (members, m, c, at, h) =
-        let all = All-contains (λ (d : ℕ × List Member). All (λ (x : Member). IsShort x.query) d.1) closures (n, members) (all_short law axioms facts closures are derived) c in
+        let all = All-contains (λ (d : ℕ × List Member). All (λ (x : Member). IsShort x.query) d.1) closures (n, members)
+        (all_short law axioms facts closures are derived) c in
         All-contains (λ (x : Member). IsShort x.query) members m all (Contains-slice_get members p m at)
 
     -- what is shown of the other facts is a conflict
@@ -92,8 +96,10 @@ module _ (law : ClosingListIsClosure) (axioms : List Axiom) (facts : List Fact) 
     shown_set (i ∷ j ∷ k ∷ set) n p s all =
         let a = s.4.ascending in
         let ij = All-contains (λ x. i < x) (j ∷ k ∷ set) j (AllPairs-head (λ x y. x < y) i (j ∷ k ∷ set) a) (Contains-head j (k ∷ set)) in
-        let jk = All-contains (λ x. j < x) (k ∷ set) k (AllPairs-head (λ x y. x < y) j (k ∷ set) (AllPairs-tail (λ x y. x < y) i (j ∷ k ∷ set) a)) (Contains-head k set) in
-        absurd (not_three facts distinct s.1.query (i ∷ j ∷ k ∷ set) (member_short n p (i ∷ j ∷ k ∷ set) s).2 s.4 i j k (Contains-head i (j ∷ k ∷ set)) (Contains-later i (j ∷ k ∷ set) j (Contains-head j (k ∷ set)))
+        let jk = All-contains (λ x. j < x) (k ∷ set) k (AllPairs-head (λ x y. x < y) j (k ∷ set) (AllPairs-tail (λ x y. x < y) i (j ∷ k ∷ set) a))
+        (Contains-head k set) in
+        absurd (not_three facts distinct s.1.query (i ∷ j ∷ k ∷ set) (member_short n p (i ∷ j ∷ k ∷ set) s).2 s.4 i j k (Contains-head i (j ∷ k ∷ set))
+        (Contains-later i (j ∷ k ∷ set) j (Contains-head j (k ∷ set)))
         (Contains-later i (j ∷ k ∷ set) k (Contains-later j (k ∷ set) k (Contains-head k set))) ij jk)
 
     -- more than the limit
@@ -117,14 +123,16 @@ module _ (law : ClosingListIsClosure) (axioms : List Axiom) (facts : List Fact) 
       pair_key : (i j : ℕ) → HasKey both (Two i j) → (i < j) × Conflict (kb_of axioms facts) i j
       pair_key i j (s, c) = go (second.only (Two i j, s) c)
         where
-          go : Contains alone (Two i j, s) ⊎ ((length (numbers_of (Two i j)) ≡ 2) × All (Contains numbers) (numbers_of (Two i j))) → (i < j) × Conflict (kb_of axioms facts) i j
+          go : Contains alone (Two i j, s) ⊎ ((length (numbers_of (Two i j)) ≡ 2) × All (Contains numbers) (numbers_of (Two i j))) → (i < j)
+              × Conflict (kb_of axioms facts) i j
           go (inl d) = absurd (alone_no_pair i j (s, d))
           go (inr w) = shown_set (i ∷ j ∷ []) s.rule s.member (first_of (Two i j) s c).shown w.1
 
       conflict_key : (i j : ℕ) → i < j → Conflict (kb_of axioms facts) i j → HasKey both (Two i j)
       conflict_key i j l c =
           let w = conflict_shown law axioms facts closures are derived distinct i j l c in
-          let inside : All (Contains numbers) (i ∷ j ∷ []) = All-of (Contains numbers) (i ∷ j ∷ []) (λ x d. (exact x).1 (image_within facts w.2.1.query (i ∷ j ∷ []) w.2.4 x d, free x (Contains-cases i (j ∷ []) x d))) in
+          let inside : All (Contains numbers) (i ∷ j ∷ []) = All-of (Contains numbers) (i ∷ j ∷ [])
+          (λ x d. (exact x).1 (image_within facts w.2.1.query (i ∷ j ∷ []) w.2.4 x d, free x (Contains-cases i (j ∷ []) x d))) in
           second.complete (Two i j) w.0 w.1 (refl, inside) tt w.2
         where
           free_of : (x : ℕ) → (IsSelfInconsistent (kb_of axioms facts) x → ⊥) → HasKey alone (One x) → ⊥
@@ -132,7 +140,11 @@ module _ (law : ClosingListIsClosure) (axioms : List Axiom) (facts : List Fact) 
 
           free : (x : ℕ) → (i ≡ x) ⊎ Contains (j ∷ []) x → HasKey alone (One x) → ⊥
           free x (inl e) = subst (λ y. HasKey alone (One y) → ⊥) e (free_of i (λ s. s c.left))
-          free x (inr d) = elim (Contains-cases j [] x d) [ inl e ↦ subst (λ y. HasKey alone (One y) → ⊥) e (free_of j (λ s. s c.right)) | inr z ↦ absurd (Contains-nil x z) ]
+          free x (inr d) = elim (Contains-cases j [] x d) [
+            | inl e ↦ subst (λ y. HasKey alone (One y) → ⊥) e (free_of j (λ s. s c.right))
+            | inr z ↦
+                absurd (Contains-nil x z)
+          ]
 
       own_found : (i : ℕ) → IsSelfInconsistent (kb_of axioms facts) i → HasKey both (One i)
       own_found i s = let w = own_shown law axioms facts closures are derived distinct i s in kept (One i) (shown_key i w.0 w.1 w.2)
@@ -140,16 +152,19 @@ module _ (law : ClosingListIsClosure) (axioms : List Axiom) (facts : List Fact) 
       -- each clash names what shows it first
       pub clashes_named : All (λ c. IsShownFirst facts closures c.facts c.«axiom» c.member) (map clash_of both)
       clashes_named = All-of (λ (c : Clash). IsShownFirst facts closures c.facts c.«axiom» c.member) (map clash_of both)
-          (λ c there. let w = map_from clash_of both c there in subst (λ (x : Clash). IsShownFirst facts closures x.facts x.«axiom» x.member) (sym w.2) (first_of w.0.0 w.0.1 w.1))
+          (λ c there. let w = map_from clash_of both c there in subst (λ (x : Clash). IsShownFirst facts closures x.facts x.«axiom» x.member) (sym w.2)
+          (first_of w.0.0 w.0.1 w.1))
 
       -- no more than the limit
       pub none_more : (limit : ℕ) → length both ≤ limit → HasMoreConflicts (kb_of axioms facts) limit → ⊥
       none_more limit few more =
-          let within = not_longer more.items (map (λ (e : ClashFacts × Source). numbers_of e.0) both) more.apart (λ set c. there set (All-contains (IsConflict (kb_of axioms facts)) more.items set more.each c)) in
+          let within = not_longer more.items (map (λ (e : ClashFacts × Source). numbers_of e.0) both) more.apart
+          (λ set c. there set (All-contains (IsConflict (kb_of axioms facts)) more.items set more.each c)) in
           omega (arith, within, few, more.longer, length-map both (λ (e : ClashFacts × Source). numbers_of e.0))
         where
           at : (k : ClashFacts) (set : List ℕ) → numbers_of k ≡ set → HasKey both k → Contains (map (λ (e : ClashFacts × Source). numbers_of e.0) both) set
-          at k set e (s, c) = subst (Contains (map (λ (x : ClashFacts × Source). numbers_of x.0) both)) e (map_to (λ (x : ClashFacts × Source). numbers_of x.0) both (k, s) c)
+          at k set e (s, c) = subst (Contains (map (λ (x : ClashFacts × Source). numbers_of x.0) both)) e
+              (map_to (λ (x : ClashFacts × Source). numbers_of x.0) both (k, s) c)
 
           there : (set : List ℕ) → IsConflict (kb_of axioms facts) set → Contains (map (λ (e : ClashFacts × Source). numbers_of e.0) both) set
           there [] c = absurd c
@@ -172,7 +187,11 @@ module _ (law : ClosingListIsClosure) (axioms : List Axiom) (facts : List Fact) 
           where
             entry : (k : ClashFacts) (s : Source) → Contains both (k, s) → IsOneOrTwo (length facts) (numbers_of k)
             entry (One i) s d = (own_key i (s, d)).0
-            entry (Two i j) s d = ((pair_key i j (s, d)).0, (let f = (first_of (Two i j) s d).shown in image_within facts f.1.query (i ∷ j ∷ []) f.4 j (Contains-later i (j ∷ []) j (Contains-head j []))))
+            entry (Two i j) s d = (
+              (pair_key i j (s, d)).0,
+              (let f = (first_of (Two i j) s d).shown in
+                  image_within facts f.1.query (i ∷ j ∷ []) f.4 j (Contains-later i (j ∷ []) j (Contains-head j []))),
+            )
 
         -- the conflicts may be kept as a table
         pub are_clashes : length facts ≤ 2 ^ 31 → length both < 2 ^ 31 → AreClashes (length facts) (map clash_of both)

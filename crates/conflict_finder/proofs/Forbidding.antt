@@ -39,11 +39,13 @@ query_from : (members : List Member) (q : Query) → Contains (queries_of member
 query_from [] q c = absurd (Contains-nil q c)
 query_from (x ∷ members) q c = by (Contains-cases x.query (queries_of members) q c) (query_from members q)
   where
-    by : (x.query ≡ q) ⊎ Contains (queries_of members) q → (Contains (queries_of members) q → (m : Member) × Contains members m × (m.query ≡ q)) → (m : Member) × Contains (x ∷ members) m × (m.query ≡ q)
+    by : (x.query ≡ q) ⊎ Contains (queries_of members) q → (Contains (queries_of members) q → (m : Member) × Contains members m × (m.query ≡ q))
+        → (m : Member) × Contains (x ∷ members) m × (m.query ≡ q)
     by (inl e) again = (x, Contains-head x members, e)
     by (inr d) again = let w = again d in (w.0, Contains-later x members w.0 w.1, w.2)
 
-module _ (law : ClosingListIsClosure) (axioms : List Axiom) (facts : List Fact) (closures : List (ℕ × List Member)) (are : AreClosures axioms closures) (derived : AreDerivations closures) where
+module _ (law : ClosingListIsClosure) (axioms : List Axiom) (facts : List Fact) (closures : List (ℕ × List Member)) (are : AreClosures axioms closures)
+    (derived : AreDerivations closures) where
   -- each closure is that of its query
   closure_is : (n : ℕ) (members : List Member) → Contains closures (n, members) → (q : Query) × Forbids axioms n q × IsClosure axioms q (queries_of members)
   closure_is n members c =
@@ -52,7 +54,8 @@ module _ (law : ClosingListIsClosure) (axioms : List Axiom) (facts : List Fact) 
       (w.0, w.1, law axioms w.0 members d w.2)
 
   pub all_short : AreShort closures
-  all_short = All-of (λ (c : ℕ × List Member). All (λ (m : Member). IsShort m.query) c.1) closures (λ c there. All-of (λ (m : Member). IsShort m.query) c.1 (λ m inside. short c m there inside))
+  all_short = All-of (λ (c : ℕ × List Member). All (λ (m : Member). IsShort m.query) c.1) closures
+      (λ c there. All-of (λ (m : Member). IsShort m.query) c.1 (λ m inside. short c m there inside))
     where
       short : (c : ℕ × List Member) (m : Member) → Contains closures c → Contains c.1 m → IsShort m.query
       short (n, members) m c d =
@@ -74,7 +77,8 @@ module _ (law : ClosingListIsClosure) (axioms : List Axiom) (facts : List Fact) 
       let place = slice_get-Contains ms.0 it.0 it.1 in
       (at.0, place.0, (ms.0, it.0, ms.1, place.1, subst (λ (z : Query). HasImage facts z [] numbers) (sym it.2) h))
     where
-      same_query : (a : Axiom) (p : Query) (b : Axiom) (s : Query) (i : ℕ) → slice_get axioms i ≡ Some a → disjointness_query a ≡ Some p → slice_get axioms i ≡ Some b → disjointness_query b ≡ Some s → p ≡ s
+      same_query : (a : Axiom) (p : Query) (b : Axiom) (s : Query) (i : ℕ) → slice_get axioms i ≡ Some a → disjointness_query a ≡ Some p
+          → slice_get axioms i ≡ Some b → disjointness_query b ≡ Some s → p ≡ s
       same_query a p b s i e f g h = let same : a ≡ b = some_inj (sym e ∙ g) in some_inj (sym f ∙ ap disjointness_query same ∙ h)
 
   module _ (distinct : AreDistinct facts) where
@@ -87,7 +91,8 @@ module _ (law : ClosingListIsClosure) (axioms : List Axiom) (facts : List Fact) 
     pub conflict_shown : (i j : ℕ) → i < j → Conflict (kb_of axioms facts) i j → (n : ℕ) × (p : ℕ) × Shows facts closures n p (i ∷ j ∷ [])
     conflict_shown i j l c = forbidden_shown (i ∷ j ∷ []) (((conflict_is_forbidden (kb_of axioms facts) distinct i j l).0 c).2)
 
-    pub shown_conflict : (i j n p : ℕ) → i < j → ((m q : ℕ) → Shows facts closures m q (i ∷ []) → ⊥) → ((m q : ℕ) → Shows facts closures m q (j ∷ []) → ⊥) → Shows facts closures n p (i ∷ j ∷ []) → Conflict (kb_of axioms facts) i j
+    pub shown_conflict : (i j n p : ℕ) → i < j → ((m q : ℕ) → Shows facts closures m q (i ∷ []) → ⊥) → ((m q : ℕ) → Shows facts closures m q (j ∷ []) → ⊥)
+        → Shows facts closures n p (i ∷ j ∷ []) → Conflict (kb_of axioms facts) i j
     shown_conflict i j n p l a b s = (conflict_is_forbidden (kb_of axioms facts) distinct i j l).1 (
       (λ f. let w = forbidden_shown (i ∷ []) f in a w.0 w.1 w.2),
       (λ f. let w = forbidden_shown (j ∷ []) f in b w.0 w.1 w.2),

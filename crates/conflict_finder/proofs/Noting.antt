@@ -53,12 +53,17 @@ module _ (facts : List Fact) (q : Query) (sought : Sought) (numbers : List ℕ) 
           → Contains old e ⊎ ((IsWanted sought numbers (numbers_of e.0) × HasImage facts q [] (numbers_of e.0)) × (HasKey old e.0 → ⊥) × (e.1 ≡ source))
           → IsNotedOrImage facts q (IsWithin sought numbers) old set
       by set e same (inl c) = inl (e.0, (e.1, c), same)
-      by set e same (inr (w, n, s)) = inr (subst (IsWithin sought numbers) (sym same) (wanted_within sought numbers (numbers_of e.0) w.0), subst (HasImage facts q []) (sym same) w.1)
+      by set e same (inr (w, n, s)) = inr (
+        subst (IsWithin sought numbers) (sym same) (wanted_within sought numbers (numbers_of e.0) w.0),
+        subst (HasImage facts q []) (sym same) w.1,
+      )
 
 -- what the keys add is what the query shows
-pub added_shown : (P : ClashFacts → Type 0) (keys : List (ClashFacts)) → AreKeys P keys → (source : Source) (old new : List (ClashFacts × Source)) → AddsNew (λ k. Contains keys k) source old new → AddsNew P source old new
+pub added_shown : (P : ClashFacts → Type 0) (keys : List (ClashFacts)) → AreKeys P keys → (source : Source) (old new : List (ClashFacts × Source))
+    → AddsNew (λ k. Contains keys k) source old new → AddsNew P source old new
 added_shown P keys are source old new adds = adds_like (λ k. Contains keys k) P source old new (λ k c. (are k).0 c) (λ k p. (are k).1 p) adds
 
 -- more images than the limit
-pub more_images : (facts : List Fact) (q : Query) (W : List ℕ → Type 0) (old : List (ClashFacts × Source)) (limit : ℕ) → HasMoreSets (λ set. W set × HasImage facts q [] set) limit → HasMoreSets (IsNotedOrImage facts q W old) limit
+pub more_images : (facts : List Fact) (q : Query) (W : List ℕ → Type 0) (old : List (ClashFacts × Source)) (limit : ℕ)
+    → HasMoreSets (λ set. W set × HasImage facts q [] set) limit → HasMoreSets (IsNotedOrImage facts q W old) limit
 more_images facts q W old limit more = more_weaker (λ set. W set × HasImage facts q [] set) (IsNotedOrImage facts q W old) limit (λ set w. inr w) more

@@ -31,15 +31,18 @@ module _ {A B : Type 0} (R : A → B → Type 0) where
 pub one_place : (numbers : List ℕ) → IsAscending numbers → (i j n : ℕ) → slice_get numbers i ≡ Some n → slice_get numbers j ≡ Some n → i ≡ j
 one_place [] a i j n e f = cc
 one_place (x ∷ xs) a zero zero n e f = refl
-one_place (x ∷ xs) a zero (suc j) n e f = let below = All-contains (λ y. x < y) xs n (AllPairs-head (λ p q. p < q) x xs a) (Contains-slice_get xs j n f) in let same = some_inj e in absurd (omega (arith, below, same))
-one_place (x ∷ xs) a (suc i) zero n e f = let below = All-contains (λ y. x < y) xs n (AllPairs-head (λ p q. p < q) x xs a) (Contains-slice_get xs i n e) in let same = some_inj f in absurd (omega (arith, below, same))
+one_place (x ∷ xs) a zero (suc j) n e f = let below = All-contains (λ y. x < y) xs n (AllPairs-head (λ p q. p < q) x xs a) (Contains-slice_get xs j n f) in
+    let same = some_inj e in absurd (omega (arith, below, same))
+one_place (x ∷ xs) a (suc i) zero n e f = let below = All-contains (λ y. x < y) xs n (AllPairs-head (λ p q. p < q) x xs a) (Contains-slice_get xs i n e) in
+    let same = some_inj f in absurd (omega (arith, below, same))
 one_place (x ∷ xs) a (suc i) (suc j) n e f = ap suc (one_place xs (AllPairs-tail (λ p q. p < q) x xs a) i j n e f)
 
 -- lesser places have lesser numbers
 pub lesser : (numbers : List ℕ) → IsAscending numbers → (i j n m : ℕ) → i < j → slice_get numbers i ≡ Some n → slice_get numbers j ≡ Some m → n < m
 lesser [] a i j n m l e f = cc
 lesser (x ∷ xs) a i zero n m l e f = absurd (omega arith)
-lesser (x ∷ xs) a zero (suc j) n m l e f = let below = All-contains (λ y. x < y) xs m (AllPairs-head (λ p q. p < q) x xs a) (Contains-slice_get xs j m f) in let same = some_inj e in omega (arith, below, same)
+lesser (x ∷ xs) a zero (suc j) n m l e f = let below = All-contains (λ y. x < y) xs m (AllPairs-head (λ p q. p < q) x xs a) (Contains-slice_get xs j m f) in
+    let same = some_inj e in omega (arith, below, same)
 lesser (x ∷ xs) a (suc i) (suc j) n m l e f = lesser xs (AllPairs-tail (λ p q. p < q) x xs a) i j n m (omega arith) e f
 
 -- ---- a part of a table
@@ -66,7 +69,8 @@ module _ (facts : List Fact) (distinct : AreDistinct facts) (numbers : List ℕ)
     pub in_whole : IsAscending set → HasImage part q [] image → HasImage facts q [] set
     in_whole ascends h =
         let F = h.match.0 in
-        let inside : (f : Fact) → Contains F f → Contains part f → Contains facts f = λ f c d. let w = slice_get-Contains part f d in let v = from_part w.0 f w.1 in Contains-slice_get facts v.0 f v.2 in
+        let inside : (f : Fact) → Contains F f → Contains part f → Contains facts f = λ f c d. let w = slice_get-Contains part f d in let v =
+        from_part w.0 f w.1 in Contains-slice_get facts v.0 f v.2 in
         record {
           ascending = ascends;
           match = (F, Match-image (Contains part) (Contains facts) q [] F inside h.match.1, λ n. (there n, back n));
@@ -119,11 +123,16 @@ module _ (facts : List Fact) (distinct : AreDistinct facts) (numbers : List ℕ)
 abbrev pub numbers_at : List ℕ → List ℕ → List ℕ
 numbers_at numbers image = map (λ i. get_or numbers i 0) image
 
-pub zip_at : (numbers image : List ℕ) → ((i : ℕ) → Contains image i → i < length numbers) → AllZip (λ n i. slice_get numbers i ≡ Some n) (numbers_at numbers image) image
+pub zip_at : (numbers image : List ℕ) → ((i : ℕ) → Contains image i → i < length numbers)
+    → AllZip (λ n i. slice_get numbers i ≡ Some n) (numbers_at numbers image) image
 zip_at numbers [] named = tt
-zip_at numbers (i ∷ image) named = (slice_get-get_or numbers i 0 (named i (Contains-head i image)), zip_at numbers image (λ j c. named j (Contains-later i image j c)))
+zip_at numbers (i ∷ image) named = (
+  slice_get-get_or numbers i 0 (named i (Contains-head i image)),
+  zip_at numbers image (λ j c. named j (Contains-later i image j c)),
+)
 
-pub ascends_at : (numbers image : List ℕ) → IsAscending numbers → IsAscending image → ((i : ℕ) → Contains image i → i < length numbers) → IsAscending (numbers_at numbers image)
+pub ascends_at : (numbers image : List ℕ) → IsAscending numbers → IsAscending image → ((i : ℕ) → Contains image i → i < length numbers)
+    → IsAscending (numbers_at numbers image)
 ascends_at numbers [] a b named = λ i j d ij l. absurd (omega arith)
 ascends_at numbers (i ∷ image) a b named =
     AllPairs-cons (λ x y. x < y) (get_or numbers i 0) (numbers_at numbers image) (All-of (λ y. get_or numbers i 0 < y) (numbers_at numbers image) later)
@@ -131,6 +140,7 @@ ascends_at numbers (i ∷ image) a b named =
   where
     later : (n : ℕ) → Contains (numbers_at numbers image) n → get_or numbers i 0 < n
     later n c =
-        let z = zip_there (λ m j. slice_get numbers j ≡ Some m) (numbers_at numbers image) image (zip_at numbers image (λ j d. named j (Contains-later i image j d))) n c in
+        let z = zip_there (λ m j. slice_get numbers j ≡ Some m) (numbers_at numbers image) image
+        (zip_at numbers image (λ j d. named j (Contains-later i image j d))) n c in
         let below = All-contains (λ y. i < y) image z.0 (AllPairs-head (λ x y. x < y) i image b) z.1 in
         lesser numbers a i z.0 (get_or numbers i 0) n below (slice_get-get_or numbers i 0 (named i (Contains-head i image))) z.2

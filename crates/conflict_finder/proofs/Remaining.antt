@@ -78,4 +78,5 @@ module _ (facts : List Fact) where
   pub facts_more : (numbers : List ℕ) (i : ℕ) (found : List Fact) (n : ℕ) (f : Fact) → take (i + 1) numbers ≡ take i numbers ++ n ∷ []
       → AllZip (λ m g. slice_get facts m ≡ Some g) (take i numbers) found → slice_get facts n ≡ Some f
       → AllZip (λ m g. slice_get facts m ≡ Some g) (take (i + 1) numbers) (found ++ f ∷ [])
-  facts_more numbers i found n f next z e = subst (λ (xs : List ℕ). AllZip (λ m g. slice_get facts m ≡ Some g) xs (found ++ f ∷ [])) (sym next) (zip_push (take i numbers) found n f z e)
+  facts_more numbers i found n f next z e = subst (λ (xs : List ℕ). AllZip (λ m g. slice_get facts m ≡ Some g) xs (found ++ f ∷ [])) (sym next)
+      (zip_push (take i numbers) found n f z e)

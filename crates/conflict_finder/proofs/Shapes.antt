@@ -1,5 +1,6 @@
 -- Queries of disjointnesses and of their closures have no head and at most two atoms.
-use Rattle.std.proofs.Common.{cond, not, ◌≡◌, ℕ, zero, suc, ◌<◌, ◌≤◌, List, [], ◌∷◌, length, map, inl, inr, Bool, true, false, slice_get, Some, refl, sym, ap, ◌∙◌, subst, arith}
+use Rattle.std.proofs.Common.{cond, not, ◌≡◌, ℕ, zero, suc, ◌<◌, ◌≤◌, List, [], ◌∷◌, length, map, inl, inr, Bool, true, false, slice_get, Some, refl, sym, ap}
+use Rattle.std.proofs.Common.{◌∙◌, subst, arith}
 use Rattle.std.specs.Ordering.{is_le}
 use Rattle.std.proofs.lemmas.Option.{slice_get_within}
 use Rattle.std.proofs.lemmas.List.{length-map, length-set}
@@ -7,7 +8,8 @@ use Rattle.cq_terms.specs.declared.axioms.Axiom.{Axiom}
 use Rattle.cq_terms.specs.declared.axioms.Axiom.TheVariants.{Sub, Disjoint, SubRole, DisjointRole}
 use Rattle.cq_terms.specs.declared.query.QAtom.{QAtom}
 use Rattle.cq_terms.specs.Query.{Query}
-use Rattle.cq_meaning.specs.NormalForm.{normal, simplified, distinct_atoms, with_unbound_any, unbound_to_any, map_atom, sorted, insert, same_atom, atom_cmp, without}
+use Rattle.cq_meaning.specs.NormalForm.{normal, simplified, distinct_atoms, with_unbound_any, unbound_to_any, map_atom, sorted, insert, same_atom, atom_cmp}
+use Rattle.cq_meaning.specs.NormalForm.{without}
 use Rattle.cq_meaning.specs.Rewriting.{Reaches, IsInClosure, disjointness_query, basic_at, role_at}
 use Rattle.cq_meaning.proofs.NormalLaws.{head_normal}
 use Rattle.cq_terms.specs.declared.query.Term.TheVariants.{Var}
@@ -34,7 +36,8 @@ simplified_some : (n : ℕ) (q : Query) → 0 < length q.body → 0 < length (si
 simplified_some zero q l = l
 simplified_some (suc n) q l =
     let p : Query = record { head = q.head; body = distinct_atoms q.body } in
-    simplified_some n (with_unbound_any p) (let k = distinct_some q.body l in omega (arith, k, length-map (distinct_atoms q.body) (map_atom (unbound_to_any p))))
+    simplified_some n (with_unbound_any p) (let k = distinct_some q.body l in
+    omega (arith, k, length-map (distinct_atoms q.body) (map_atom (unbound_to_any p))))
 
 insert_length : (a : QAtom) (body : List QAtom) → length (insert a body) ≡ suc (length body)
 insert_length a [] = refl
@@ -61,7 +64,8 @@ without_one (b ∷ body) zero a e = refl
 without_one (b ∷ body) (suc i) a e = ap suc (without_one body i a e)
 
 short_step : (axioms : List Axiom) (q p : Query) → IsShort q → StepsTo axioms q p → IsShort p
-short_step axioms q p s (inl (i, rule, c, (x, y, g, st, d))) = subst IsShort (sym d) (s.0, (let k = s.1 in omega (arith, k, length-set q.body i y)), (let k = s.2 in omega (arith, k, length-set q.body i y)))
+short_step axioms q p s (inl (i, rule, c, (x, y, g, st, d))) =
+    subst IsShort (sym d) (s.0, (let k = s.1 in omega (arith, k, length-set q.body i y)), (let k = s.2 in omega (arith, k, length-set q.body i y)))
 short_step axioms q p s (inr (i, j, (x, y, f, z, l, g, g', u, d))) =
     let a = length-set (map (map_atom f) (without q.body j)) i z in
     let b = length-map (without q.body j) (map_atom f) in
@@ -72,7 +76,8 @@ short_step axioms q p s (inr (i, j, (x, y, f, z, l, g, g', u, d))) =
 
 pub short_reached : (axioms : List Axiom) (n : ℕ) (q p : Query) → IsShort q → Reaches axioms n q p → IsShort p
 short_reached axioms zero q p s e = subst IsShort e s
-short_reached axioms (suc n) q p s (r, m, more) = let t = step_of axioms q r m in short_reached axioms n r p (subst IsShort (sym t.2) (short_normal t.0 (short_step axioms q t.0 s t.1))) more
+short_reached axioms (suc n) q p s (r, m, more) = let t = step_of axioms q r m in
+    short_reached axioms n r p (subst IsShort (sym t.2) (short_normal t.0 (short_step axioms q t.0 s t.1))) more
 
 pub short_in_closure : (axioms : List Axiom) (q p : Query) → IsShort q → IsInClosure axioms q p → IsShort p
 short_in_closure axioms q p s (n, r) = short_reached axioms n (normal q) p (short_normal q s) r

@@ -1,5 +1,6 @@
 -- What a loop over a list has met, and the keys that it has gathered.
-use Rattle.std.proofs.Common.{◌≡◌, ℕ, ◌+◌, ◌<◌, ◌≤◌, List, [], ◌∷◌, ◌++◌, length, get_or, Contains, ◌⊎◌, inl, inr, slice_get, Some, refl, sym, ap, ◌∙◌, subst, arith}
+use Rattle.std.proofs.Common.{◌≡◌, ℕ, ◌+◌, ◌<◌, ◌≤◌, List, [], ◌∷◌, ◌++◌, length, get_or, Contains, ◌⊎◌, inl, inr, slice_get, Some, refl, sym, ap, ◌∙◌, subst}
+use Rattle.std.proofs.Common.{arith}
 use Rattle.std.proofs.lemmas.Bool.{cases_lt}
 use Rattle.std.proofs.lemmas.Option.{slice_get-get_or, slice_get_within}
 use Rattle.cq_terms.specs.declared.facts.Fact.{Fact}
@@ -53,7 +54,8 @@ module _ (P Q : ClashFacts → Type 0) (keys : List (ClashFacts)) where
   pub keys_like : AreKeys P keys → ((k : ClashFacts) → P k → Q k) → ((k : ClashFacts) → Q k → P k) → AreKeys Q keys
   keys_like are f g k = ((λ c. f k ((are k).0 c)), (λ q. (are k).1 (g k q)))
 
-  pub keys_push : (x : ClashFacts) → AreKeys P keys → ((k : ClashFacts) → Q k → P k ⊎ (k ≡ x)) → ((k : ClashFacts) → P k → Q k) → Q x → AreKeys Q (keys ++ x ∷ [])
+  pub keys_push : (x : ClashFacts) → AreKeys P keys → ((k : ClashFacts) → Q k → P k ⊎ (k ≡ x)) → ((k : ClashFacts) → P k → Q k) → Q x
+      → AreKeys Q (keys ++ x ∷ [])
   keys_push x are f g here k = ((λ c. there (append_cases keys (x ∷ []) k c)), (λ q. back (f k q)))
     where
       last : (x ≡ k) ⊎ Contains [] k → Q k
@@ -80,13 +82,15 @@ module _ (keys : List (ClashFacts)) (source : Source) (old : List (ClashFacts ×
   pub noted_more : (n : ℕ) (x : ClashFacts) → slice_get keys n ≡ Some x → (mid new : List (ClashFacts × Source))
       → AddsNew (IsMet keys n) source old mid → AddsNew (λ k. k ≡ x) source mid new → AddsNew (IsMet keys (n + 1)) source old new
   noted_more n x at mid new a b =
-      adds_like (λ k. IsMet keys n k ⊎ (k ≡ x)) (IsMet keys (n + 1)) source old new to (met_cases keys n x at) (adds_then (IsMet keys n) (λ k. k ≡ x) source old mid new a b)
+      adds_like (λ k. IsMet keys n k ⊎ (k ≡ x)) (IsMet keys (n + 1)) source old new to (met_cases keys n x at)
+      (adds_then (IsMet keys n) (λ k. k ≡ x) source old mid new a b)
     where
       to : (k : ClashFacts) → IsMet keys n k ⊎ (k ≡ x) → IsMet keys (n + 1) k
       to k (inl m) = met_before keys n k m
       to k (inr e) = subst (IsMet keys (n + 1)) (sym e) (met_here keys n x at)
 
-  pub noted_all : (n : ℕ) → length keys ≤ n → (new : List (ClashFacts × Source)) → AddsNew (IsMet keys n) source old new → AddsNew (λ k. Contains keys k) source old new
+  pub noted_all : (n : ℕ) → length keys ≤ n → (new : List (ClashFacts × Source)) → AddsNew (IsMet keys n) source old new
+      → AddsNew (λ k. Contains keys k) source old new
   noted_all n l new a = adds_like (IsMet keys n) (λ k. Contains keys k) source old new (met_there keys n) (met_all keys n l) a
 
 -- ---- single facts
@@ -111,15 +115,18 @@ module _ (facts : List Fact) (q : Query) (items : List ℕ) where
         by k w (inr e) = absurd (never (subst (λ m. HasImage facts q [] (m ∷ [])) e w.3))
 
     pub single_found : HasImage facts q [] (n ∷ []) → AreKeys (IsSingle facts q items (i + 1)) (keys ++ One n ∷ [])
-    single_found h = keys_push (IsSingle facts q items i) (IsSingle facts q items (i + 1)) keys (One n) are (λ k w. by k w (met_cases items i n at w.0 w.1)) before (n, met_here items i n at, refl, h)
+    single_found h = keys_push (IsSingle facts q items i) (IsSingle facts q items (i + 1)) keys (One n) are (λ k w. by k w (met_cases items i n at w.0 w.1))
+        before (n, met_here items i n at, refl, h)
       where
         by : (k : ClashFacts) → (w : IsSingle facts q items (i + 1) k) → IsMet items i w.0 ⊎ (w.0 ≡ n) → IsSingle facts q items i k ⊎ (k ≡ One n)
         by k w (inl met) = inl (w.0, met, w.2, w.3)
         by k w (inr e) = inr (w.2 ∙ ap One e)
 
-  pub single_all : (i : ℕ) → length items ≤ i → ((n : ℕ) → HasImage facts q [] (n ∷ []) → Contains items n) → (keys : List ClashFacts) → AreKeys (IsSingle facts q items i) keys
+  pub single_all : (i : ℕ) → length items ≤ i → ((n : ℕ) → HasImage facts q [] (n ∷ []) → Contains items n) → (keys : List ClashFacts)
+      → AreKeys (IsSingle facts q items i) keys
       → AreKeys (λ k. (length (numbers_of k) ≡ 1) × HasImage facts q [] (numbers_of k)) keys
-  single_all i l complete keys are = keys_like (IsSingle facts q items i) (λ k. (length (numbers_of k) ≡ 1) × HasImage facts q [] (numbers_of k)) keys are there back
+  single_all i l complete keys are = keys_like (IsSingle facts q items i) (λ k. (length (numbers_of k) ≡ 1) × HasImage facts q [] (numbers_of k)) keys are
+      there back
     where
       there : (k : ClashFacts) → IsSingle facts q items i k → (length (numbers_of k) ≡ 1) × HasImage facts q [] (numbers_of k)
       there k (n, met, e, h) = subst (λ (z : ClashFacts). (length (numbers_of z) ≡ 1) × HasImage facts q [] (numbers_of z)) (sym e) (refl, h)
@@ -140,7 +147,8 @@ IsPairOf hits numbers k = (h : Hit) × Contains hits h × IsTwoAt numbers h.imag
 
 module _ (numbers image : List ℕ) where
   -- there are no other two facts
-  same_two : (a b c d i j x y : ℕ) → image ≡ i ∷ j ∷ [] → image ≡ x ∷ y ∷ [] → slice_get numbers i ≡ Some a → slice_get numbers j ≡ Some b → slice_get numbers x ≡ Some c → slice_get numbers y ≡ Some d → Two a b ≡ Two c d
+  same_two : (a b c d i j x y : ℕ) → image ≡ i ∷ j ∷ [] → image ≡ x ∷ y ∷ [] → slice_get numbers i ≡ Some a → slice_get numbers j ≡ Some b
+      → slice_get numbers x ≡ Some c → slice_get numbers y ≡ Some d → Two a b ≡ Two c d
   same_two a b c d i j x y e f at_i at_j at_x at_y = cc
 
   one_key : (k j : ClashFacts) → IsTwoAt numbers image k → IsTwoAt numbers image j → k ≡ j
@@ -168,7 +176,8 @@ module _ (hits : List Hit) (numbers : List ℕ) where
         by k w (inr e) = absurd (no_key numbers h.image never k (subst (λ (g : Hit). IsTwoAt numbers g.image k) e w.2))
 
     pub pair_found : (new : ClashFacts) → IsTwoAt numbers h.image new → AreKeys (IsPair hits numbers (n + 1)) (keys ++ new ∷ [])
-    pair_found new two = keys_push (IsPair hits numbers n) (IsPair hits numbers (n + 1)) keys new are (λ k w. by k w (met_cases hits n h at w.0 w.1)) before_pair (h, met_here hits n h at, two)
+    pair_found new two = keys_push (IsPair hits numbers n) (IsPair hits numbers (n + 1)) keys new are (λ k w. by k w (met_cases hits n h at w.0 w.1))
+        before_pair (h, met_here hits n h at, two)
       where
         by : (k : ClashFacts) → (w : IsPair hits numbers (n + 1) k) → IsMet hits n w.0 ⊎ (w.0 ≡ h) → IsPair hits numbers n k ⊎ (k ≡ new)
         by k w (inl met) = inl (w.0, met, w.2)

@@ -67,7 +67,8 @@ NoneTooLarge axioms limit = (n : ℕ) (q : Query) → Forbids axioms n q → ¬ 
 -- what is answered for one axiom: none for an inclusion, and for a disjointness its closure, which isn't too large
 abbrev pub IsClosureOf : List Axiom → Axiom → ℕ → Option (List Member) → Type 0
 IsClosureOf axioms rule limit None = disjointness_query rule ≡ None
-IsClosureOf axioms rule limit (Some members) = (q : Query) × (disjointness_query rule ≡ Some q) × Closes axioms q members × IsDerivation members × (¬ HasMoreThan axioms q limit)
+IsClosureOf axioms rule limit (Some members) = (q : Query) × (disjointness_query rule ≡ Some q) × Closes axioms q members × IsDerivation members
+    × (¬ HasMoreThan axioms q limit)
 
 -- how the refusal of a join is that of the finder
 abbrev pub refusal_of : JoinRefusal → FindRefusal

@@ -56,7 +56,8 @@ abbrev pub AreFirst : List Fact → List (ℕ × List Member) → List (ClashFac
 AreFirst facts closures entries = All (λ e. IsShownFirst facts closures (numbers_of e.0) e.1.rule e.1.member) entries
 
 -- all that is wanted and is shown at a place that has D has an entry, and nothing else is new
-pub record IsScanned (facts : List Fact) (closures : List (ℕ × List Member)) (sought : Sought) (numbers : List ℕ) (D : ℕ → ℕ → Type 0) (old new : List (ClashFacts × Source)) : Type 0 where
+pub record IsScanned (facts : List Fact) (closures : List (ℕ × List Member)) (sought : Sought) (numbers : List ℕ) (D : ℕ → ℕ → Type 0)
+    (old new : List (ClashFacts × Source)) : Type 0 where
   pub kept : (e : ClashFacts × Source) → Contains old e → Contains new e
   pub only : (e : ClashFacts × Source) → Contains new e → Contains old e ⊎ IsWanted sought numbers (numbers_of e.0)
   pub first : AreFirst facts closures new

@@ -11,8 +11,6 @@ mod others;
 mod refusal;
 mod scan;
 mod sought;
-#[cfg(test)]
-mod tests;
 
 pub use finder::{FoundConflicts, find};
 pub use refusal::FindRefusal;

@@ -10,8 +10,6 @@ mod moves;
 mod normal_form;
 mod order;
 mod reduce_step;
-#[cfg(test)]
-mod tests;
 mod unbound;
 mod unify;
 

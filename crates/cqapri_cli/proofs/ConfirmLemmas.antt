@@ -35,7 +35,8 @@ abbrev pub confirms : FileNames → List ℕ → Task
 confirms names report = record { names = names; report = Some report }
 
 -- a report that isn't fetched explains the end
-explains_stop : (held : Held) (words : List (List ℕ)) (names : FileNames) (name : List ℕ) → AreWords words (confirms names name) → AreAnswered held names → (r : Refusal) → StopsFetch held name r → Explains (Some held) words r
+explains_stop : (held : Held) (words : List (List ℕ)) (names : FileNames) (name : List ℕ) → AreWords words (confirms names name) → AreAnswered held names
+    → (r : Refusal) → StopsFetch held name r → Explains (Some held) words r
 explains_stop held words names name w all (refusal.Report why) s = (confirms names name, w, (all, s))
 explains_stop held words names name w all refusal.NoMemory s = explains_memory (Some held) words (confirms names name) w
 explains_stop held words names name w all refusal.Words s = absurd s
@@ -46,7 +47,8 @@ explains_stop held words names name w all refusal.NotBuilt s = absurd s
 explains_stop held words names name w all (refusal.ReadFault f) s = absurd s
 explains_stop held words names name w all refusal.WriteFault s = absurd s
 
-explains_untold : (words : List (List ℕ)) (names : FileNames) (name : List ℕ) → AreWords words (confirms names name) → (r : Refusal) → IsOfReport r → Explains None words r
+explains_untold : (words : List (List ℕ)) (names : FileNames) (name : List ℕ) → AreWords words (confirms names name) → (r : Refusal) → IsOfReport r
+    → Explains None words r
 explains_untold words names name w (refusal.Report why) k = (confirms names name, w, tt)
 explains_untold words names name w refusal.NoMemory k = (confirms names name, w, tt)
 explains_untold words names name w refusal.Words k = absurd k
@@ -57,7 +59,8 @@ explains_untold words names name w refusal.NotBuilt k = absurd k
 explains_untold words names name w (refusal.ReadFault f) k = absurd k
 explains_untold words names name w refusal.WriteFault k = absurd k
 
-pub explains_report : (holds mid : Option Held) → mid ≡ holds → (words : List (List ℕ)) (names : FileNames) (name : List ℕ) → AreWords words (confirms names name) → IfSome holds (λ held. AreAnswered held names)
+pub explains_report : (holds mid : Option Held) → mid ≡ holds → (words : List (List ℕ)) (names : FileNames) (name : List ℕ)
+    → AreWords words (confirms names name) → IfSome holds (λ held. AreAnswered held names)
     → (r : Refusal) → IsOfReport r → IfSome mid (λ held. StopsFetch held name r) → Explains holds words r
 explains_report holds mid e words names name w all r k s = go holds all (subst (λ o. IfSome o (λ held. StopsFetch held name r)) e s)
   where
@@ -121,14 +124,16 @@ each_within : (bound bound' : ℕ) (facts : List Fact) → AllByRecursion (IsOfN
 each_within bound bound' [] h = tt
 each_within bound bound' (f ∷ facts) h = (one_within bound bound' f h.0, each_within bound bound' facts h.1)
 
-pub individuals_within : (kb : Knowledge) (query : Query) (vocab : Vocab) → IsBounded kb query vocab → All IsOfName kb.facts → AreIndividualsWithin (length vocab.inds) kb.facts
+pub individuals_within : (kb : Knowledge) (query : Query) (vocab : Vocab) → IsBounded kb query vocab → All IsOfName kb.facts
+    → AreIndividualsWithin (length vocab.inds) kb.facts
 individuals_within kb query vocab bounded of =
     let below = All-apply IsOfName (IsOfNameBelow (length vocab.concepts) (length vocab.inds)) kb.facts bounded.facts of in
     All-from_recursion _ kb.facts (each_within _ _ kb.facts (recursion_from_All _ kb.facts below))
 
 -- what the confirmer answers is a right verdict
 pub right_verdict : (kb : Knowledge) (texts : List (List ℕ)) (q : Query) (report : List ℕ) (verdict : Confirmed)
-    → ((answers : ℕ) → (verdict ≡ Yes answers) ↔ IsAccepted kb texts q report answers) → ((line : ℕ) (rule : Rule) → (verdict ≡ No line rule) ↔ IsFirstBroken kb texts q report line rule)
+    → ((answers : ℕ) → (verdict ≡ Yes answers) ↔ IsAccepted kb texts q report answers)
+    → ((line : ℕ) (rule : Rule) → (verdict ≡ No line rule) ↔ IsFirstBroken kb texts q report line rule)
     → ((answers : ℕ) → verdict ≡ Yes answers → IsTrueReport kb q report answers) → IsRightVerdict kb texts q report verdict
 right_verdict kb texts q report (Yes answers) accepts breaks truth = ((accepts answers).0 refl, truth answers refl)
 right_verdict kb texts q report (No line rule) accepts breaks truth = ((breaks line rule).0 refl, other)
@@ -137,8 +142,10 @@ right_verdict kb texts q report (No line rule) accepts breaks truth = ((breaks l
     other answers accepted = let same : No line rule ≡ Yes answers = (accepts answers).1 accepted in absurd (cc)
 
 -- and it is one of the report that the words name
-pub judges : (holds mid : Option Held) → mid ≡ holds → (words : List (List ℕ)) (names : FileNames) (name : List ℕ) → AreWords words (confirms names name) → (kb : Knowledge) (query : Query) (vocab : Vocab)
-    → FilesSay holds names kb query vocab → (concept : ℕ) → IsAnswered kb query concept → (report : List ℕ) → IsFetchedReport mid name report → (verdict : Confirmed)
+pub judges : (holds mid : Option Held) → mid ≡ holds → (words : List (List ℕ)) (names : FileNames) (name : List ℕ) → AreWords words (confirms names name)
+    → (kb : Knowledge) (query : Query) (vocab : Vocab)
+    → FilesSay holds names kb query vocab → (concept : ℕ) → IsAnswered kb query concept → (report : List ℕ) → IsFetchedReport mid name report
+    → (verdict : Confirmed)
     → IsRightVerdict kb vocab.inds query report verdict → Judges holds words verdict
 judges holds mid e words names name w kb query vocab say concept is report fetched verdict right = record {
   task = confirms names name;
@@ -155,7 +162,8 @@ judges holds mid e words names name w kb query vocab say concept is report fetch
 }
 
 -- a verdict whose status is open says that the report is rejected
-pub open_of : (holds : Option Held) (words : List (List ℕ)) (old new : Option (List ℕ)) (verdict : Confirmed) (result : Status) → result ≡ verdict_status verdict → result ≡ status.Open
+pub open_of : (holds : Option Held) (words : List (List ℕ)) (old new : Option (List ℕ)) (verdict : Confirmed) (result : Status)
+    → result ≡ verdict_status verdict → result ≡ status.Open
     → WritesVerdict holds words old new verdict → WritesOpen holds words old new
 open_of holds words old new (Yes answers) result e o w = let same : status.Done ≡ status.Open = sym e ∙ o in absurd (cc)
 open_of holds words old new (No line rule) result e o w = (line, rule, w)

@@ -92,7 +92,8 @@ not_too_long : (bytes others : List ℕ) → bytes ≡ others → report_limit <
 not_too_long bytes others e long short = let long' : report_limit < length others = subst (λ b. report_limit < length b) e long in omega arith
 
 -- two refusals of the report are one
-same_report : (held : Held) (report : Option (List ℕ)) (why other : ReportRefusal) → SaysOfReport why → SaysOfReport other → StopsReport held report why → StopsReport held report other
+same_report : (held : Held) (report : Option (List ℕ)) (why other : ReportRefusal) → SaysOfReport why → SaysOfReport other → StopsReport held report why
+    → StopsReport held report other
     → why ≡ other
 same_report held None why other d f s t = absurd s
 same_report held (Some name) report_refusal.NotThere report_refusal.NotThere d f s t = refl
@@ -130,7 +131,8 @@ module _ (laws : ReaderLaws) (held : Held) where
   -- an accepted file doesn't stop a job
   accepted_stops_not : (name : List ℕ) (f : File) → IsAccepted held name f → (r : Refusal) → Stop held name f r → ⊥
   accepted_stops_not name f good r (inl a) = not_there (held name) good.bytes a.missing good.there
-  accepted_stops_not name f good r (inr (inl a)) = not_long f _ _ (one_text (held name) a.too_long.bytes good.bytes a.too_long.there good.there) a.too_long.long good.short
+  accepted_stops_not name f good r (inr (inl a)) = not_long f _ _ (one_text (held name) a.too_long.bytes good.bytes a.too_long.there good.there)
+      a.too_long.long good.short
   accepted_stops_not name f good r (inr (inr a)) =
       let e : a.text.bytes ≡ good.bytes = one_text (held name) a.text.bytes good.bytes a.text.there good.there in
       not_both laws f good.bytes good.has r a.content (subst (λ t. Refuses f t r) e a.text.has)
@@ -146,7 +148,8 @@ module _ (laws : ReaderLaws) (held : Held) where
 
   -- two refusals of the files are one: that of the first file that isn't accepted
   same_files : (names : FileNames) (r s : Refusal) → IsOfContent r → IsOfContent s → StopsFiles held names r → StopsFiles held names s → r ≡ s
-  same_files names r s k m (file.Ontology, a, x) (file.Ontology, b, y) = same_stop names.ontology file.Ontology r s (stop_of held _ _ r k x) (stop_of held _ _ s m y)
+  same_files names r s k m (file.Ontology, a, x) (file.Ontology, b, y) =
+      same_stop names.ontology file.Ontology r s (stop_of held _ _ r k x) (stop_of held _ _ s m y)
   same_files names r s k m (file.Ontology, a, x) (file.Facts, b, y) = absurd (accepted_stops_not names.ontology file.Ontology b r (stop_of held _ _ r k x))
   same_files names r s k m (file.Ontology, a, x) (file.Query, b, y) = absurd (accepted_stops_not names.ontology file.Ontology b.0 r (stop_of held _ _ r k x))
   same_files names r s k m (file.Facts, a, x) (file.Ontology, b, y) = absurd (accepted_stops_not names.ontology file.Ontology a s (stop_of held _ _ s m y))

@@ -19,7 +19,8 @@ use Rattle.cqapri_cli.specs.declared.files.File.TheVariants as file
 use Rattle.cqapri_cli.proofs.NumberedLemmas.{asked_bounded, axioms_bounded, facts_bounded}
 
 -- the texts as they were fetched and read, one after the other
-pub record AreRead (holds mid late : Option Held) (names : FileNames) (empty first second vocab : Vocab) (axioms : List Axiom) (table : Table) (query : Query) : Type 0 where
+pub record AreRead (holds mid late : Option Held) (names : FileNames) (empty first second vocab : Vocab) (axioms : List Axiom) (table : Table)
+    (query : Query) : Type 0 where
   pub mid_is : mid ≡ holds
   pub late_is : late ≡ mid
   pub no_concepts : empty.concepts ≡ []
@@ -37,8 +38,10 @@ nothing_named empty c r i =
     ∙ ap (λ (x : List (List ℕ)). record { concepts = []; roles = []; inds = x }) i
 
 -- they say this
-pub files_say : (holds mid late : Option Held) (names : FileNames) (empty first second vocab : Vocab) (axioms : List Axiom) (table : Table) (query : Query) → AreRead holds mid late names empty first second vocab axioms table query
-    → (facts : List Fact) → facts ≡ table.facts → (kb : Knowledge) → kb ≡ record { axioms = axioms; facts = facts; pairs = [] } → FilesSay holds names kb query vocab
+pub files_say : (holds mid late : Option Held) (names : FileNames) (empty first second vocab : Vocab) (axioms : List Axiom) (table : Table) (query : Query)
+    → AreRead holds mid late names empty first second vocab axioms table query
+    → (facts : List Fact) → facts ≡ table.facts → (kb : Knowledge) → kb ≡ record { axioms = axioms; facts = facts; pairs = [] }
+    → FilesSay holds names kb query vocab
 files_say holds mid late names empty first second vocab axioms table query are facts e kb is =
     subst (λ (k : Knowledge). FilesSay holds names k query vocab) (sym is) (record {
       ontology_text = are.ontology.0;
@@ -60,8 +63,10 @@ files_say holds mid late names empty first second vocab axioms table query are f
     })
 
 -- and its numbers are those of names
-pub bounded : (holds mid late : Option Held) (names : FileNames) (empty first second vocab : Vocab) (axioms : List Axiom) (table : Table) (query : Query) → AreRead holds mid late names empty first second vocab axioms table query
-    → GrowsBy file.Facts first second → GrowsBy file.Query second vocab → length axioms ≤ limit_of file.Ontology → All (IsNumbered second) table.facts → length table.facts ≤ length table.records
+pub bounded : (holds mid late : Option Held) (names : FileNames) (empty first second vocab : Vocab) (axioms : List Axiom) (table : Table) (query : Query)
+    → AreRead holds mid late names empty first second vocab axioms table query
+    → GrowsBy file.Facts first second → GrowsBy file.Query second vocab → length axioms ≤ limit_of file.Ontology → All (IsNumbered second) table.facts
+    → length table.facts ≤ length table.records
     → (facts : List Fact) → facts ≡ table.facts → (kb : Knowledge) → kb ≡ record { axioms = axioms; facts = facts; pairs = [] } → IsBounded kb query vocab
 bounded holds mid late names empty first second vocab axioms table query are grown more few numbered records facts e kb is =
     let read = are.facts.2 in

@@ -39,10 +39,12 @@ of_query (query_refusal.HeadNotInBody place) = tt
 of_query query_refusal.NoMemory = tt
 
 -- a fetched text that its reader refuses stops the job
-stops_by_reader : (holds : Option Held) (name bytes : List ℕ) (f : File) → IsFetched holds name f bytes → (r : Refusal) → IsOfReader r → Refuses f bytes r → IfSome holds (λ held. StopsAt held name f r)
+stops_by_reader : (holds : Option Held) (name bytes : List ℕ) (f : File) → IsFetched holds name f bytes → (r : Refusal) → IsOfReader r → Refuses f bytes r
+    → IfSome holds (λ held. StopsAt held name f r)
 stops_by_reader None name bytes f fetched r k why = tt
 stops_by_reader (Some held) name bytes f fetched (refusal.Faulty fault) k why = record { bytes = bytes; there = fetched.held; short = fetched.short; has = why }
-stops_by_reader (Some held) name bytes f fetched (refusal.Limit quantity) k why = inr (record { bytes = bytes; there = fetched.held; short = fetched.short; has = why })
+stops_by_reader (Some held) name bytes f fetched (refusal.Limit quantity) k why =
+    inr (record { bytes = bytes; there = fetched.held; short = fetched.short; has = why })
 stops_by_reader (Some held) name bytes f fetched refusal.NoMemory k why = tt
 stops_by_reader (Some held) name bytes f fetched refusal.Words k why = absurd k
 stops_by_reader (Some held) name bytes f fetched (refusal.NotThere g) k why = absurd k
@@ -51,47 +53,57 @@ stops_by_reader (Some held) name bytes f fetched (refusal.ReadFault g) k why = a
 stops_by_reader (Some held) name bytes f fetched (refusal.Report other) k why = absurd k
 stops_by_reader (Some held) name bytes f fetched refusal.WriteFault k why = absurd k
 
-pub stops_query : (holds : Option Held) (name bytes text : List ℕ) → IsFetched holds name file.Query bytes → text ≡ bytes → (refused : QueryRefusal) → Explains (after_marks text) refused
+pub stops_query : (holds : Option Held) (name bytes text : List ℕ) → IsFetched holds name file.Query bytes → text ≡ bytes → (refused : QueryRefusal)
+    → Explains (after_marks text) refused
     → IfSome holds (λ held. StopsAt held name file.Query (refusal_of_query refused))
 stops_query holds name bytes text fetched e refused why =
-    stops_by_reader holds name bytes file.Query fetched (refusal_of_query refused) (of_query refused) (refused, subst (λ b. Explains (after_marks b) refused) e why, refl)
+    stops_by_reader holds name bytes file.Query fetched (refusal_of_query refused) (of_query refused)
+    (refused, subst (λ b. Explains (after_marks b) refused) e why, refl)
 
 -- a fetched text that its reader accepts is accepted
-accepted : (holds : Option Held) (name bytes : List ℕ) (f : File) → IsFetched holds name f bytes → Accepts f bytes → IfSome holds (λ held. IsAccepted held name f)
+accepted : (holds : Option Held) (name bytes : List ℕ) (f : File) → IsFetched holds name f bytes → Accepts f bytes
+    → IfSome holds (λ held. IsAccepted held name f)
 accepted None name bytes f fetched good = tt
 accepted (Some held) name bytes f fetched good = record { bytes = bytes; there = fetched.held; short = fetched.short; has = good }
 
-pub accepted_ontology : (holds : Option Held) (name bytes : List ℕ) (old new : Vocab) (axioms : List Axiom) → IsFetched holds name file.Ontology bytes → Reads bytes old new axioms
+pub accepted_ontology : (holds : Option Held) (name bytes : List ℕ) (old new : Vocab) (axioms : List Axiom) → IsFetched holds name file.Ontology bytes
+    → Reads bytes old new axioms
     → IfSome holds (λ held. IsAccepted held name file.Ontology)
 accepted_ontology holds name bytes old new axioms fetched reads = accepted holds name bytes file.Ontology fetched (reads.named, reads.text)
 
-pub accepted_facts : (holds : Option Held) (name bytes : List ℕ) (old new : Vocab) (table : Table) → IsFetched holds name file.Facts bytes → ReadsFacts bytes old new table
+pub accepted_facts : (holds : Option Held) (name bytes : List ℕ) (old new : Vocab) (table : Table) → IsFetched holds name file.Facts bytes
+    → ReadsFacts bytes old new table
     → IfSome holds (λ held. IsAccepted held name file.Facts)
 accepted_facts holds name bytes old new table fetched reads = accepted holds name bytes file.Facts fetched (record { right = reads.right; few = reads.few })
 
-pub accepted_query : (holds : Option Held) (name bytes : List ℕ) (old new : Vocab) (query : Query) → IsFetched holds name file.Query bytes → IsQueryOf (after_marks bytes) old new query
+pub accepted_query : (holds : Option Held) (name bytes : List ℕ) (old new : Vocab) (query : Query) → IsFetched holds name file.Query bytes
+    → IsQueryOf (after_marks bytes) old new query
     → IfSome holds (λ held. IsAccepted held name file.Query)
 accepted_query holds name bytes old new query fetched reads =
     accepted holds name bytes file.Query fetched (reads.query, record { text = reads.text; distinct = reads.distinct; inside = reads.inside })
 
 -- the facts stop the job after the ontology was accepted
-pub stops_at_facts : (old new : Option Held) → new ≡ old → (names : FileNames) → IfSome old (λ held. IsAccepted held names.ontology file.Ontology) → (r : Refusal)
+pub stops_at_facts : (old new : Option Held) → new ≡ old → (names : FileNames) → IfSome old (λ held. IsAccepted held names.ontology file.Ontology)
+    → (r : Refusal)
     → IfSome new (λ held. StopsAt held names.facts file.Facts r) → IfSome old (λ held. StopsFiles held names r)
 stops_at_facts old new e names ontology r stop = go old ontology (subst (λ o. IfSome o (λ held. StopsAt held names.facts file.Facts r)) e stop)
   where
-    go : (o : Option Held) → IfSome o (λ held. IsAccepted held names.ontology file.Ontology) → IfSome o (λ held. StopsAt held names.facts file.Facts r) → IfSome o (λ held. StopsFiles held names r)
+    go : (o : Option Held) → IfSome o (λ held. IsAccepted held names.ontology file.Ontology) → IfSome o (λ held. StopsAt held names.facts file.Facts r)
+        → IfSome o (λ held. StopsFiles held names r)
     go None a s = tt
     go (Some held) a s = (file.Facts, a, s)
 
 -- the query stops the job after the ontology and the facts were accepted
-pub stops_at_query : (old mid new : Option Held) → mid ≡ old → new ≡ mid → (names : FileNames) → IfSome old (λ held. IsAccepted held names.ontology file.Ontology)
+pub stops_at_query : (old mid new : Option Held) → mid ≡ old → new ≡ mid → (names : FileNames)
+    → IfSome old (λ held. IsAccepted held names.ontology file.Ontology)
     → IfSome mid (λ held. IsAccepted held names.facts file.Facts) → (r : Refusal)
     → IfSome new (λ held. StopsAt held names.query file.Query r) → IfSome old (λ held. StopsFiles held names r)
 stops_at_query old mid new e d names ontology facts r stop =
     go old ontology (subst (λ o. IfSome o (λ held. IsAccepted held names.facts file.Facts)) e facts)
     (subst (λ o. IfSome o (λ held. StopsAt held names.query file.Query r)) e (subst (λ o. IfSome o (λ held. StopsAt held names.query file.Query r)) d stop))
   where
-    go : (o : Option Held) → IfSome o (λ held. IsAccepted held names.ontology file.Ontology) → IfSome o (λ held. IsAccepted held names.facts file.Facts) → IfSome o (λ held. StopsAt held names.query file.Query r) → IfSome o (λ held. StopsFiles held names r)
+    go : (o : Option Held) → IfSome o (λ held. IsAccepted held names.ontology file.Ontology) → IfSome o (λ held. IsAccepted held names.facts file.Facts)
+        → IfSome o (λ held. StopsAt held names.query file.Query r) → IfSome o (λ held. StopsFiles held names r)
     go None a b s = tt
     go (Some held) a b s = (file.Query, (a, b), s)
 

@@ -3,7 +3,8 @@ use Rattle.std.proofs.Common.{◌≡◌, ◌⊎◌, inl, inr, ℕ, suc, ◌+◌,
 use Rattle.std.specs.List.{AllByRecursion}
 use Rattle.std.proofs.lemmas.List.Elements.{recursion_from_All}
 use Rattle.axiom_reader.specs.Meaning.{IsRefused}
-use Rattle.axiom_reader.specs.Reading.{ComesTo, EachTextHasOneReading as EachOntologyHasOneReading, Fault as LineFault, bad_line, line_not_utf8, reads, refuses, too_many as too_many_axioms}
+use Rattle.axiom_reader.specs.Reading.{ComesTo, EachTextHasOneReading as EachOntologyHasOneReading, Fault as LineFault, bad_line, line_not_utf8, reads}
+use Rattle.axiom_reader.specs.Reading.{refuses, too_many as too_many_axioms}
 use Rattle.axiom_reader.specs.declared.refusal.AxiomRefusal.{AxiomRefusal}
 use Rattle.axiom_reader.specs.declared.refusal.AxiomRefusal.TheVariants as axiom_refusal
 use Rattle.fact_tables.specs.FactRecords.{FactFault, HasFault, IsFactRecord, bad_width, empty_field, most_records, not_utf8, too_many}
@@ -52,7 +53,8 @@ record HasLineFault (bytes : List ℕ) (r : Refusal) : Type 0 where
   comes : ComesTo bytes (refuses wrong line)
   is : r ≡ line_refusal wrong line
 
-line_fault : (bytes : List ℕ) (r : Refusal) (refused : AxiomRefusal) → IsRefused bytes refused → r ≡ refusal_of_axioms refused → IsOfContent r → HasLineFault bytes r
+line_fault : (bytes : List ℕ) (r : Refusal) (refused : AxiomRefusal) → IsRefused bytes refused → r ≡ refusal_of_axioms refused → IsOfContent r
+    → HasLineFault bytes r
 line_fault bytes r (axiom_refusal.NotUtf8 line) why e k = record { wrong = line_not_utf8; line = line; comes = why; is = e }
 line_fault bytes r (axiom_refusal.BadLine line) why e k = record { wrong = bad_line; line = line; comes = why; is = e }
 line_fault bytes r axiom_refusal.TooMany (line, why) e k = record { wrong = too_many_axioms; line = line; comes = why; is = e }
@@ -72,7 +74,8 @@ record HasRecordFault (bytes : List ℕ) (r : Refusal) : Type 0 where
   first : FirstFault wrong bytes number
   is : r ≡ record_refusal wrong number
 
-record_fault : (bytes : List ℕ) (r : Refusal) (refused : FactRefusal) → IsFactRefusal bytes refused → r ≡ refusal_of_facts refused → IsOfContent r → HasRecordFault bytes r
+record_fault : (bytes : List ℕ) (r : Refusal) (refused : FactRefusal) → IsFactRefusal bytes refused → r ≡ refusal_of_facts refused → IsOfContent r
+    → HasRecordFault bytes r
 record_fault bytes r (fact_refusal.BadWidth number) why e k = record { wrong = bad_width; number = number; first = why; is = e }
 record_fault bytes r (fact_refusal.NotUtf8 number) why e k = record { wrong = not_utf8; number = number; first = why; is = e }
 record_fault bytes r (fact_refusal.EmptyField number) why e k = record { wrong = empty_field; number = number; first = why; is = e }
@@ -102,7 +105,8 @@ cuts (first ∷ a) (other ∷ b) x y c d e = go (cuts a b x y c d (cc))
     same : first ≡ other
     same = cc
 
-    go : (length a ≡ length b) ⊎ (IsWithin a x b ⊎ IsWithin b y a) → (length (first ∷ a) ≡ length (other ∷ b)) ⊎ (IsWithin (first ∷ a) x (other ∷ b) ⊎ IsWithin (other ∷ b) y (first ∷ a))
+    go : (length a ≡ length b) ⊎ (IsWithin a x b ⊎ IsWithin b y a) → (length (first ∷ a) ≡ length (other ∷ b))
+        ⊎ (IsWithin (first ∷ a) x (other ∷ b) ⊎ IsWithin (other ∷ b) y (first ∷ a))
     go (inl l) = inl (ap suc l)
     go (inr (inl w)) = inr (inl (record { rest = w.rest; is = ap₂ (λ (t : List ℕ) (ts : List (List ℕ)). t ∷ ts) (sym same) w.is }))
     go (inr (inr w)) = inr (inr (record { rest = w.rest; is = ap₂ (λ (t : List ℕ) (ts : List (List ℕ)). t ∷ ts) same w.is }))
@@ -122,23 +126,29 @@ same_outside query x y a b = go (cuts a.before b.before a.letters b.letters a.af
   where
     go : (length a.before ≡ length b.before) ⊎ (IsWithin a.before a.letters b.before ⊎ IsWithin b.before b.letters a.before) → x ≡ y
     go (inl l) = a.place_is ∙ l ∙ sym b.place_is
-    go (inr (inl w)) = absurd (a.outside (middle (IsInBody query.body) a.before a.letters w.rest (recursion_from_All _ _ (subst (All (IsInBody query.body)) w.is b.first))))
-    go (inr (inr w)) = absurd (b.outside (middle (IsInBody query.body) b.before b.letters w.rest (recursion_from_All _ _ (subst (All (IsInBody query.body)) w.is a.first))))
+    go (inr (inl w)) = absurd (a.outside (middle (IsInBody query.body) a.before a.letters w.rest
+        (recursion_from_All _ _ (subst (All (IsInBody query.body)) w.is b.first))))
+    go (inr (inr w)) = absurd (b.outside (middle (IsInBody query.body) b.before b.letters w.rest
+        (recursion_from_All _ _ (subst (All (IsInBody query.body)) w.is a.first))))
 
 module _ (laws : ReaderLaws) where
   -- two refusals of one query are one
-  same_query : (bytes : List ℕ) (a b : QueryRefusal) → Explains bytes a → Explains bytes b → IsOfContent (refusal_of_query a) → IsOfContent (refusal_of_query b) → a ≡ b
+  same_query : (bytes : List ℕ) (a b : QueryRefusal) → Explains bytes a → Explains bytes b → IsOfContent (refusal_of_query a)
+      → IsOfContent (refusal_of_query b) → a ≡ b
   same_query bytes (query_refusal.BadToken x) (query_refusal.BadToken y) why other k m = ap query_refusal.BadToken (laws.faults.one bytes x y why other)
   same_query bytes (query_refusal.BadToken x) query_refusal.TooManyAtoms why (query, text, many) k m = absurd (laws.faults.none bytes query x text why)
-  same_query bytes (query_refusal.BadToken x) (query_refusal.RepeatedHead y) why (query, short, first) k m = absurd (laws.faults.none bytes query x short.text why)
-  same_query bytes (query_refusal.BadToken x) (query_refusal.HeadNotInBody y) why (query, short, distinct, first) k m = absurd (laws.faults.none bytes query x short.text why)
+  same_query bytes (query_refusal.BadToken x) (query_refusal.RepeatedHead y) why (query, short, first) k m =
+      absurd (laws.faults.none bytes query x short.text why)
+  same_query bytes (query_refusal.BadToken x) (query_refusal.HeadNotInBody y) why (query, short, distinct, first) k m =
+      absurd (laws.faults.none bytes query x short.text why)
   same_query bytes query_refusal.TooManyAtoms (query_refusal.BadToken y) (query, text, many) other k m = absurd (laws.faults.none bytes query y text other)
   same_query bytes query_refusal.TooManyAtoms query_refusal.TooManyAtoms why other k m = refl
   same_query bytes query_refusal.TooManyAtoms (query_refusal.RepeatedHead y) (query, text, many) (others, short, first) k m =
       absurd (not_short query others (laws.queries bytes query others text short.text) many short.few)
   same_query bytes query_refusal.TooManyAtoms (query_refusal.HeadNotInBody y) (query, text, many) (others, short, distinct, first) k m =
       absurd (not_short query others (laws.queries bytes query others text short.text) many short.few)
-  same_query bytes (query_refusal.RepeatedHead x) (query_refusal.BadToken y) (query, short, first) other k m = absurd (laws.faults.none bytes query y short.text other)
+  same_query bytes (query_refusal.RepeatedHead x) (query_refusal.BadToken y) (query, short, first) other k m =
+      absurd (laws.faults.none bytes query y short.text other)
   same_query bytes (query_refusal.RepeatedHead x) query_refusal.TooManyAtoms (others, short, first) (query, text, many) k m =
       absurd (not_short query others (laws.queries bytes query others text short.text) many short.few)
   same_query bytes (query_refusal.RepeatedHead x) (query_refusal.RepeatedHead y) (query, short, first) (others, more, second) k m =
@@ -147,7 +157,8 @@ module _ (laws : ReaderLaws) where
   same_query bytes (query_refusal.RepeatedHead x) (query_refusal.HeadNotInBody y) (query, short, first) (others, more, distinct, second) k m =
       let e : query ≡ others = laws.queries bytes query others short.text more.text in
       absurd (distinct first.before first.after first.letters (sym (ap (λ q. q.head) e) ∙ first.whole) first.repeated)
-  same_query bytes (query_refusal.HeadNotInBody x) (query_refusal.BadToken y) (query, short, distinct, first) other k m = absurd (laws.faults.none bytes query y short.text other)
+  same_query bytes (query_refusal.HeadNotInBody x) (query_refusal.BadToken y) (query, short, distinct, first) other k m =
+      absurd (laws.faults.none bytes query y short.text other)
   same_query bytes (query_refusal.HeadNotInBody x) query_refusal.TooManyAtoms (others, short, distinct, first) (query, text, many) k m =
       absurd (not_short query others (laws.queries bytes query others text short.text) many short.few)
   same_query bytes (query_refusal.HeadNotInBody x) (query_refusal.RepeatedHead y) (others, more, distinct, second) (query, short, first) k m =
@@ -160,9 +171,11 @@ module _ (laws : ReaderLaws) where
   same_query bytes a query_refusal.NoMemory why other k m = absurd m
 
   -- an accepted query has no refusal
-  query_accepted : (bytes : List ℕ) (query : NamedQuery) → IsQuery bytes query → (refused : QueryRefusal) → Explains (after_marks bytes) refused → IsOfContent (refusal_of_query refused) → ⊥
+  query_accepted : (bytes : List ℕ) (query : NamedQuery) → IsQuery bytes query → (refused : QueryRefusal) → Explains (after_marks bytes) refused
+      → IsOfContent (refusal_of_query refused) → ⊥
   query_accepted bytes query is (query_refusal.BadToken at) why k = laws.faults.none (after_marks bytes) query at is.text.text why
-  query_accepted bytes query is query_refusal.TooManyAtoms (other, text, many) k = not_short other query (laws.queries (after_marks bytes) other query text is.text.text) many is.text.few
+  query_accepted bytes query is query_refusal.TooManyAtoms (other, text, many) k =
+      not_short other query (laws.queries (after_marks bytes) other query text is.text.text) many is.text.few
   query_accepted bytes query is (query_refusal.RepeatedHead place) (other, short, first) k =
       let e : other ≡ query = laws.queries (after_marks bytes) other query short.text is.text.text in
       is.distinct first.before first.after first.letters (sym (ap (λ q. q.head) e) ∙ first.whole) first.repeated

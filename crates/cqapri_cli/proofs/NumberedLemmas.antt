@@ -1,5 +1,6 @@
 -- What is answered by numbers is answered by names, and numbers are those of names.
-use Rattle.std.proofs.Common.{◌≡◌, ℕ, ◌<◌, ◌≤◌, zero, suc, Bool, true, false, cond, not, List, [], ◌∷◌, length, slice_get, Some, All, filter, refl, sym, ap, ap₂, ◌∙◌, subst, arith, rules}
+use Rattle.std.proofs.Common.{◌≡◌, ℕ, ◌<◌, ◌≤◌, zero, suc, Bool, true, false, cond, not, List, [], ◌∷◌, length, slice_get, Some, All, filter, refl, sym, ap}
+use Rattle.std.proofs.Common.{ap₂, ◌∙◌, subst, arith, rules}
 use Rattle.std.specs.List.{AllByRecursion, AllZip, list_any}
 use Rattle.std.specs.Str.{bytes_eq}
 use Rattle.std.proofs.lemmas.List.Elements.{All-contains, All-from_recursion, All-weaker}
@@ -85,21 +86,28 @@ of_names vocab (concepts (concept left) negated (has right)) given is k = absurd
 of_names vocab (roles left negated right) given is k = absurd k
 
 -- the same for all axioms
-pub all_named_concepts : (vocab : Vocab) (named : List NamedAxiom) (axioms : List Axiom) → AreAxiomsOf vocab named axioms → AllByRecursion IsOfNames axioms → AllByRecursion NamesConcepts named
+pub all_named_concepts : (vocab : Vocab) (named : List NamedAxiom) (axioms : List Axiom) → AreAxiomsOf vocab named axioms → AllByRecursion IsOfNames axioms
+    → AllByRecursion NamesConcepts named
 all_named_concepts vocab [] [] are of = tt
-all_named_concepts vocab (first ∷ named) (given ∷ axioms) are of = (named_concepts vocab first given are.0 of.0, all_named_concepts vocab named axioms are.1 of.1)
+all_named_concepts vocab (first ∷ named) (given ∷ axioms) are of =
+    (named_concepts vocab first given are.0 of.0, all_named_concepts vocab named axioms are.1 of.1)
 all_named_concepts vocab [] (given ∷ axioms) are of = absurd are
 all_named_concepts vocab (first ∷ named) [] are of = absurd are
 
-pub all_of_names : (vocab : Vocab) (named : List NamedAxiom) (axioms : List Axiom) → AreAxiomsOf vocab named axioms → AllByRecursion NamesConcepts named → AllByRecursion IsOfNames axioms
+pub all_of_names : (vocab : Vocab) (named : List NamedAxiom) (axioms : List Axiom) → AreAxiomsOf vocab named axioms → AllByRecursion NamesConcepts named
+    → AllByRecursion IsOfNames axioms
 all_of_names vocab [] [] are k = tt
 all_of_names vocab (first ∷ named) (given ∷ axioms) are k = (of_names vocab first given are.0 k.0, all_of_names vocab named axioms are.1 k.1)
 all_of_names vocab [] (given ∷ axioms) are k = absurd are
 all_of_names vocab (first ∷ named) [] are k = absurd are
 
-all_below : (vocab : Vocab) (named : List NamedAxiom) (axioms : List Axiom) → AreAxiomsOf vocab named axioms → AllByRecursion (λ given. IsOfNames given → IsOfNamesBelow (length vocab.concepts) given) axioms
+all_below : (vocab : Vocab) (named : List NamedAxiom) (axioms : List Axiom) → AreAxiomsOf vocab named axioms
+    → AllByRecursion (λ given. IsOfNames given → IsOfNamesBelow (length vocab.concepts) given) axioms
 all_below vocab [] [] are = tt
-all_below vocab (first ∷ named) (given ∷ axioms) are = (λ of. below vocab first given are.0 (named_concepts vocab first given are.0 of), all_below vocab named axioms are.1)
+all_below vocab (first ∷ named) (given ∷ axioms) are = (
+  λ of. below vocab first given are.0 (named_concepts vocab first given are.0 of),
+  all_below vocab named axioms are.1,
+)
 all_below vocab [] (given ∷ axioms) are = absurd are
 all_below vocab (first ∷ named) [] are = absurd are
 
@@ -109,18 +117,22 @@ axiom_weaker n m l (Disjoint (basic.Concept a) (basic.Concept b)) h of = let g =
 axiom_weaker n m l given h of = absurd of
 
 -- the numbers of axioms over concept names are below those of a later vocabulary
-pub axioms_bounded : (old new : Vocab) (named : List NamedAxiom) (axioms : List Axiom) → AreAxiomsOf old named axioms → length old.concepts ≤ length new.concepts
+pub axioms_bounded : (old new : Vocab) (named : List NamedAxiom) (axioms : List Axiom) → AreAxiomsOf old named axioms
+    → length old.concepts ≤ length new.concepts
     → All (λ given. IsOfNames given → IsOfNamesBelow (length new.concepts) given) axioms
 axioms_bounded old new named axioms are l =
-    All-weaker _ _ (λ given. axiom_weaker (length old.concepts) (length new.concepts) l given) axioms (All-from_recursion _ axioms (all_below old named axioms are))
+    All-weaker _ _ (λ given. axiom_weaker (length old.concepts) (length new.concepts) l given) axioms
+    (All-from_recursion _ axioms (all_below old named axioms are))
 
-fact_weaker : (old new : Vocab) → length old.concepts ≤ length new.concepts → length old.inds ≤ length new.inds → (given : Fact) → IsNumbered old given → IsOfName given
+fact_weaker : (old new : Vocab) → length old.concepts ≤ length new.concepts → length old.inds ≤ length new.inds → (given : Fact) → IsNumbered old given
+    → IsOfName given
     → IsOfNameBelow (length new.concepts) (length new.inds) given
 fact_weaker old new l m (fact.Concept a c) h of = (omega (arith, h.0), omega (arith, h.1))
 fact_weaker old new l m (fact.Link p c d) h of = absurd of
 
 -- so are those of facts
-pub facts_bounded : (old new : Vocab) (facts : List Fact) → All (IsNumbered old) facts → length old.concepts ≤ length new.concepts → length old.inds ≤ length new.inds
+pub facts_bounded : (old new : Vocab) (facts : List Fact) → All (IsNumbered old) facts → length old.concepts ≤ length new.concepts
+    → length old.inds ≤ length new.inds
     → All (λ given. IsOfName given → IsOfNameBelow (length new.concepts) (length new.inds) given) facts
 facts_bounded old new facts h l m = All-weaker _ _ (fact_weaker old new l m) facts h
 
@@ -153,7 +165,8 @@ rows_of_concepts vocab table [] (given ∷ facts) numbers each at of = absurd ea
 rows_of_concepts vocab table (fields ∷ rows) [] numbers each at of = absurd each
 
 -- and the other way round
-concepts_of_rows : (vocab : Vocab) (rows : List Fields) (facts : List Fact) → AllZip (IsFactOf vocab) rows facts → AllByRecursion (λ fields. length fields ≡ 2) rows → AllByRecursion IsOfName facts
+concepts_of_rows : (vocab : Vocab) (rows : List Fields) (facts : List Fact) → AllZip (IsFactOf vocab) rows facts
+    → AllByRecursion (λ fields. length fields ≡ 2) rows → AllByRecursion IsOfName facts
 concepts_of_rows vocab [] [] each two = tt
 concepts_of_rows vocab (fields ∷ rows) (given ∷ facts) each two = (of_concept vocab fields given each.0 two.0, concepts_of_rows vocab rows facts each.1 two.1)
 concepts_of_rows vocab [] (given ∷ facts) each two = absurd each
@@ -196,15 +209,18 @@ record IsBody (numbers : Numbers) (body : List NamedAtom) (pred number : ℕ) : 
   pred_at : slice_get numbers.concepts pred ≡ Some name
   at : slice_get numbers.variables number ≡ Some letters
 
-body_of : (numbers : Numbers) (body : List NamedAtom) (pred number : ℕ) → AreAtomsOf numbers body (atom.Concept pred (term.Var number) ∷ []) → IsBody numbers body pred number
+body_of : (numbers : Numbers) (body : List NamedAtom) (pred number : ℕ) → AreAtomsOf numbers body (atom.Concept pred (term.Var number) ∷ [])
+    → IsBody numbers body pred number
 body_of numbers [] pred number h = absurd h
-body_of numbers (concept_atom name (variable_term letters) ∷ []) pred number h = record { letters = letters; name = name; is = refl; pred_at = h.0.0; at = h.0.1 }
+body_of numbers (concept_atom name (variable_term letters) ∷ []) pred number h =
+    record { letters = letters; name = name; is = refl; pred_at = h.0.0; at = h.0.1 }
 body_of numbers (concept_atom name (constant_term text) ∷ []) pred number h = absurd h.0.1
 body_of numbers (role_atom name from to ∷ []) pred number h = absurd h.0
 body_of numbers (first ∷ other ∷ more) pred number h = absurd h.1
 
 -- a query for one concept, by number, asks for it
-pub asks_for_concept : (bytes : List ℕ) (old new : Vocab) (query : Query) (asked : ℕ) (is : IsQueryOf bytes old new query) → query ≡ concept_query asked → AsksForConcept is.query
+pub asks_for_concept : (bytes : List ℕ) (old new : Vocab) (query : Query) (asked : ℕ) (is : IsQueryOf bytes old new query) → query ≡ concept_query asked
+    → AsksForConcept is.query
 asks_for_concept bytes old new query asked is e =
     let head = head_of _ is.query.head 0 (subst (λ (q : Query). AreHeadOf (with_query old is.query).variables is.query.head q.head) e is.head) in
     let body = body_of _ is.query.body asked 0 (subst (λ (q : Query). AreAtomsOf (with_query old is.query) is.query.body q.body) e is.body) in
@@ -218,7 +234,8 @@ asks_for_concept bytes old new query asked is e =
     }
 
 -- its number is that of a name
-pub asked_bounded : (bytes : List ℕ) (old new : Vocab) (query : Query) → IsQueryOf bytes old new query → (asked : ℕ) → query ≡ concept_query asked → asked < length new.concepts
+pub asked_bounded : (bytes : List ℕ) (old new : Vocab) (query : Query) → IsQueryOf bytes old new query → (asked : ℕ) → query ≡ concept_query asked
+    → asked < length new.concepts
 asked_bounded bytes old new query is asked e =
     let body = body_of _ is.query.body asked 0 (subst (λ (q : Query). AreAtomsOf (with_query old is.query) is.query.body q.body) e is.body) in
     subst (λ names. asked < length names) (sym is.concepts) (slice_get_within _ asked body.name body.pred_at)
@@ -236,9 +253,11 @@ only letters text zero e = refl
 only letters text (suc number) e = cc
 
 -- the terms of a head of one variable
-head_is : (letters : List ℕ) (variables : List (List ℕ)) → variables ≡ letters ∷ [] → (terms : List Term) → AreHeadOf variables (letters ∷ []) terms → terms ≡ term.Var 0 ∷ []
+head_is : (letters : List ℕ) (variables : List (List ℕ)) → variables ≡ letters ∷ [] → (terms : List Term) → AreHeadOf variables (letters ∷ []) terms
+    → terms ≡ term.Var 0 ∷ []
 head_is letters variables e [] h = absurd h
-head_is letters variables e (term.Var number ∷ []) h = ap (λ n. term.Var n ∷ []) (only letters letters number (subst (λ names. slice_get names number ≡ Some letters) e h.0))
+head_is letters variables e (term.Var number ∷ []) h = ap (λ n. term.Var n ∷ [])
+    (only letters letters number (subst (λ names. slice_get names number ≡ Some letters) e h.0))
 head_is letters variables e (term.Var number ∷ other ∷ more) h = absurd h.1
 head_is letters variables e (term.Ind number ∷ more) h = absurd h
 head_is letters variables e (term.Any ∷ more) h = absurd h
@@ -248,7 +267,8 @@ record IsAtomAt (atoms : List QAtom) : Type 0 where
   pred : ℕ
   is : atoms ≡ atom.Concept pred (term.Var 0) ∷ []
 
-body_is : (letters name : List ℕ) (numbers : Numbers) → numbers.variables ≡ letters ∷ [] → (atoms : List QAtom) → AreAtomsOf numbers (concept_atom name (variable_term letters) ∷ []) atoms → IsAtomAt atoms
+body_is : (letters name : List ℕ) (numbers : Numbers) → numbers.variables ≡ letters ∷ [] → (atoms : List QAtom)
+    → AreAtomsOf numbers (concept_atom name (variable_term letters) ∷ []) atoms → IsAtomAt atoms
 body_is letters name numbers e [] h = absurd h
 body_is letters name numbers e (atom.Concept pred (term.Var number) ∷ []) h = record {
   pred = pred;
@@ -260,7 +280,8 @@ body_is letters name numbers e (atom.Link pred from to ∷ []) h = absurd h.0
 body_is letters name numbers e (first ∷ other ∷ more) h = absurd h.1
 
 -- a query that asks for one concept is for it by number
-pub concept_asked : (bytes : List ℕ) (old new : Vocab) (query : Query) (is : IsQueryOf bytes old new query) → AsksForConcept is.query → (asked : ℕ) × (query ≡ concept_query asked)
+pub concept_asked : (bytes : List ℕ) (old new : Vocab) (query : Query) (is : IsQueryOf bytes old new query) → AsksForConcept is.query → (asked : ℕ)
+    × (query ≡ concept_query asked)
 concept_asked bytes old new query is asks = (atoms.pred, ap₂ (λ (h : List Term) (b : List QAtom). record { head = h; body = b }) head atoms.is)
   where
     named : NamedQuery
@@ -276,4 +297,5 @@ concept_asked bytes old new query is asks = (atoms.pred, ap₂ (λ (h : List Ter
     head = head_is asks.letters _ variables query.head (subst (λ (n : NamedQuery). AreHeadOf (with_query old n).variables n.head query.head) same is.head)
 
     atoms : IsAtomAt query.body
-    atoms = body_is asks.letters asks.name (with_query old named) variables query.body (subst (λ (n : NamedQuery). AreAtomsOf (with_query old n) n.body query.body) same is.body)
+    atoms = body_is asks.letters asks.name (with_query old named) variables query.body
+        (subst (λ (n : NamedQuery). AreAtomsOf (with_query old n) n.body query.body) same is.body)

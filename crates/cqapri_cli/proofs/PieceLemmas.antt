@@ -1,5 +1,6 @@
 -- Texts that are written piece by piece.
-use Rattle.std.proofs.Common.{◌≡◌, ℕ, ◌+◌, ◌<◌, ◌≤◌, min, List, [], ◌∷◌, ◌++◌, length, take, drop, get_or, Option, Some, None, refl, sym, ap, ◌∙◌, arith, Bool, true, false, true≢false, Result, Ok, Err, OnErr}
+use Rattle.std.proofs.Common.{◌≡◌, ℕ, ◌+◌, ◌<◌, ◌≤◌, min, List, [], ◌∷◌, ◌++◌, length, take, drop, get_or, Option, Some, None, refl, sym, ap, ◌∙◌, arith}
+use Rattle.std.proofs.Common.{Bool, true, false, true≢false, Result, Ok, Err, OnErr}
 use Rattle.std.specs.List.{flat_map}
 use Rattle.std.proofs.lemmas.List.{take_all, take-append-drop, take-append-le, take_min, take_more, append_assoc, append-nil}
 use Rattle.std.proofs.lemmas.List.Concat.{flat_map-append}
@@ -25,7 +26,8 @@ module _ {X : Type 0} (f : X → List ℕ) where
   -- the texts of one more item
   pub flat_map-take_more : (xs : List X) (i : ℕ) (d : X) → i < length xs → flat_map f (take (i + 1) xs) ≡ flat_map f (take i xs) ++ f (get_or xs i d)
   flat_map-take_more xs i d l =
-      ap (flat_map f) (take_more xs i d l) ∙ flat_map-append f (take i xs) (get_or xs i d ∷ []) ∙ ap (λ t. flat_map f (take i xs) ++ t) (append-nil (f (get_or xs i d)))
+      ap (flat_map f) (take_more xs i d l) ∙ flat_map-append f (take i xs) (get_or xs i d ∷ [])
+      ∙ ap (λ t. flat_map f (take i xs) ++ t) (append-nil (f (get_or xs i d)))
 
   -- the texts of all items are those before one, its own, and those after it
   whole : (xs : List X) (i : ℕ) (d : X) → i < length xs → flat_map f xs ≡ flat_map f (take i xs) ++ (f (get_or xs i d) ++ flat_map f (drop (i + 1) xs))
@@ -41,21 +43,30 @@ module _ {X : Type 0} (f : X → List ℕ) where
       let done = flat_map f (take i xs) in
       let piece = f (get_or xs i d) in
       let rest = flat_map f (drop (i + 1) xs) in
-      let m = min count (length piece) in
-      (length done + m, sym (ap (take (length done + m)) (whole xs i d l) ∙ take-append-add done (piece ++ rest) m ∙ ap (λ t. done ++ t) (take-append-le m piece rest (min-le_right count (length piece)) ∙ take_min count piece)))
+      let m = min count (length piece) in (
+        length done + m,
+        sym (ap (take (length done + m)) (whole xs i d l) ∙ take-append-add done (piece ++ rest) m
+            ∙ ap (λ t. done ++ t) (take-append-le m piece rest (min-le_right count (length piece)) ∙ take_min count piece)),
+      )
 
   -- one more item was written
-  pub written_more : (xs : List X) (i : ℕ) (d : X) → i < length xs → (old mid new : Option (List ℕ)) → mid ≡ appended old (flat_map f (take i xs)) → new ≡ appended mid (f (get_or xs i d))
+  pub written_more : (xs : List X) (i : ℕ) (d : X) → i < length xs → (old mid new : Option (List ℕ)) → mid ≡ appended old (flat_map f (take i xs))
+      → new ≡ appended mid (f (get_or xs i d))
       → new ≡ appended old (flat_map f (take (i + 1) xs))
   written_more xs i d l old mid new e h =
-      h ∙ ap (λ o. appended o (f (get_or xs i d))) e ∙ appended-append old (flat_map f (take i xs)) (f (get_or xs i d)) ∙ ap (appended old) (sym (flat_map-take_more xs i d l))
+      h ∙ ap (λ o. appended o (f (get_or xs i d))) e ∙ appended-append old (flat_map f (take i xs)) (f (get_or xs i d))
+      ∙ ap (appended old) (sym (flat_map-take_more xs i d l))
 
   -- the first bytes of one more item were written
-  pub written_part : (xs : List X) (i : ℕ) (d : X) → i < length xs → (old mid new : Option (List ℕ)) → mid ≡ appended old (flat_map f (take i xs)) → (count : ℕ) → new ≡ appended mid (take count (f (get_or xs i d)))
+  pub written_part : (xs : List X) (i : ℕ) (d : X) → i < length xs → (old mid new : Option (List ℕ)) → mid ≡ appended old (flat_map f (take i xs))
+      → (count : ℕ) → new ≡ appended mid (take count (f (get_or xs i d)))
       → AppendsFirst old new (flat_map f xs)
   written_part xs i d l old mid new e count h =
-      let w = first_of_all xs i d l count in
-      (w.0, h ∙ ap (λ o. appended o (take count (f (get_or xs i d)))) e ∙ appended-append old (flat_map f (take i xs)) (take count (f (get_or xs i d))) ∙ ap (appended old) w.1)
+      let w = first_of_all xs i d l count in (
+        w.0,
+        h ∙ ap (λ o. appended o (take count (f (get_or xs i d)))) e ∙ appended-append old (flat_map f (take i xs)) (take count (f (get_or xs i d)))
+            ∙ ap (appended old) w.1,
+      )
 
 -- what a failed call tells of its count
 pub TellsFault-failed : (before now : ℕ) (failed : Bool) → failed ≡ true → CountsFault before now → TellsFault before now failed

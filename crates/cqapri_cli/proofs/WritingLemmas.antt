@@ -54,17 +54,21 @@ stopped NoMemory old new first second (count, e) =
     (w.0, e ∙ ap (λ lines. appended old (bytes_of lines)) w.1)
 
 -- lines after lines that were written
-pub all_lines : (old mid new : Option (List ℕ)) (first second : List Line) → mid ≡ appended old (bytes_of first) → new ≡ appended mid (bytes_of second) → new ≡ appended old (bytes_of (first ++ second))
+pub all_lines : (old mid new : Option (List ℕ)) (first second : List Line) → mid ≡ appended old (bytes_of first) → new ≡ appended mid (bytes_of second)
+    → new ≡ appended old (bytes_of (first ++ second))
 all_lines old mid new first second e w =
-    w ∙ ap (λ o. appended o (bytes_of second)) e ∙ appended-append old (bytes_of first) (bytes_of second) ∙ ap (appended old) (sym (bytes_of-append first second))
+    w ∙ ap (λ o. appended o (bytes_of second)) e ∙ appended-append old (bytes_of first) (bytes_of second)
+    ∙ ap (appended old) (sym (bytes_of-append first second))
 
 -- more lines after those that were written
-pub then_lines : {T : Type 0} (r : Result T LineFault) (old mid new : Option (List ℕ)) (first second : List Line) → mid ≡ appended old (bytes_of first) → WritesLines r mid new second → WritesLines r old new (first ++ second)
+pub then_lines : {T : Type 0} (r : Result T LineFault) (old mid new : Option (List ℕ)) (first second : List Line) → mid ≡ appended old (bytes_of first)
+    → WritesLines r mid new second → WritesLines r old new (first ++ second)
 then_lines (Ok x) old mid new first second e w = all_lines old mid new first second e w
 then_lines (Err Failed) old mid new first second e (count, w) = (
   length (bytes_of first) + count,
   w ∙ ap (λ o. appended o (take count (bytes_of second))) e ∙ appended-append old (bytes_of first) (take count (bytes_of second))
-      ∙ ap (appended old) (sym (ap (take (length (bytes_of first) + count)) (bytes_of-append first second) ∙ take-append-add (bytes_of first) (bytes_of second) count)),
+      ∙ ap (appended old) (sym (ap (take (length (bytes_of first) + count)) (bytes_of-append first second)
+      ∙ take-append-add (bytes_of first) (bytes_of second) count)),
 )
 then_lines (Err NoMemory) old mid new first second e (count, w) = (
   length first + count,
@@ -73,10 +77,12 @@ then_lines (Err NoMemory) old mid new first second e (count, w) = (
 )
 
 -- and so much less behind lines that were written
-pub stopped_later : (e : LineFault) (old mid new : Option (List ℕ)) (first second : List Line) → mid ≡ appended old (bytes_of first) → StopsBy e mid new second → StopsBy e old new (first ++ second)
+pub stopped_later : (e : LineFault) (old mid new : Option (List ℕ)) (first second : List Line) → mid ≡ appended old (bytes_of first)
+    → StopsBy e mid new second → StopsBy e old new (first ++ second)
 stopped_later e old mid new first second d w = then_lines {T = Unit {0}} (Err e) old mid new first second d w
 
 -- an error that is passed on
-pub passed_on : {T : Type 0} (r : Result T LineFault) (e : LineFault) (old new : Option (List ℕ)) (lines : List Line) → IsErrAnd r (λ x. x ≡ e) → StopsBy e old new lines → WritesLines r old new lines
+pub passed_on : {T : Type 0} (r : Result T LineFault) (e : LineFault) (old new : Option (List ℕ)) (lines : List Line) → IsErrAnd r (λ x. x ≡ e)
+    → StopsBy e old new lines → WritesLines r old new lines
 passed_on (Ok x) e old new lines h w = absurd h
 passed_on (Err x) e old new lines h w = subst (λ f. StopsBy f old new lines) (sym h) w

@@ -34,7 +34,8 @@ core_numbers None number = []
 -- the answer, with its individual's text and the number of its core
 abbrev pub answer_line : List (List ℕ) → ℕ → Answer → Line
 answer_line texts number answer =
-    line.Answer (brave_verdict answer.witness) Undecided Undecided (core_numbers answer.witness number) (get_or texts answer.individual [] ∷ []) (answer.individual ∷ [])
+    line.Answer (brave_verdict answer.witness) Undecided Undecided (core_numbers answer.witness number) (get_or texts answer.individual [] ∷ [])
+    (answer.individual ∷ [])
 
 -- the line of the core, where there is a witness
 abbrev pub core_lines : Option ℕ → ℕ → List ℕ → List Line

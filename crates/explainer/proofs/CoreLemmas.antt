@@ -1,8 +1,10 @@
 -- A core for given facts: what the present facts give, how it grows, and that it ends as one.
-use Rattle.std.proofs.Common.{◌≡◌, ◌<◌, ◌≤◌, ◌+◌, ◌⊎◌, inl, inr, ◌↔◌, ℕ, suc, Bool, List, [], ◌∷◌, ◌++◌, length, take, get_or, refl, sym, ap, ◌∙◌, subst, arith, Contains, All, length-append}
+use Rattle.std.proofs.Common.{◌≡◌, ◌<◌, ◌≤◌, ◌+◌, ◌⊎◌, inl, inr, ◌↔◌, ℕ, suc, Bool, List, [], ◌∷◌, ◌++◌, length, take, get_or, refl, sym, ap, ◌∙◌, subst}
+use Rattle.std.proofs.Common.{arith, Contains, All, length-append}
 use Rattle.std.proofs.lemmas.Bool.{cases_Bool, true≢false}
 use Rattle.std.proofs.lemmas.List.{take_more, take_all, take-append-le}
-use Rattle.std.proofs.lemmas.List.Elements.{All-contains, Contains-get_or, Contains-append_left, Contains-append_right, Contains-append_cases, Contains-push, Contains-push_cases}
+use Rattle.std.proofs.lemmas.List.Elements.{All-contains, Contains-get_or, Contains-append_left, Contains-append_right, Contains-append_cases, Contains-push}
+use Rattle.std.proofs.lemmas.List.Elements.{Contains-push_cases}
 use Rattle.std.specs.List.{AllPairs}
 use Rattle.clause_meaning.specs.Assignments.{SatisfiesAll}
 use Rattle.clause_meaning.proofs.Members.{Contains-take}
@@ -35,9 +37,11 @@ pub reached_itself : (g : ConflictGraph) (facts : List ℕ) (i : ℕ) → Contai
 reached_itself g facts i m = (i, m, (0, refl))
 
 -- facts of the table reach facts of the table
-pub reached_known : (p : Priority) (g : ConflictGraph) (facts : List ℕ) → IsPriority p → IsOver p g → All (λ i. i < g.facts) facts → (i : ℕ) → IsReachedFrom g facts i → i < g.facts
+pub reached_known : (p : Priority) (g : ConflictGraph) (facts : List ℕ) → IsPriority p → IsOver p g → All (λ i. i < g.facts) facts → (i : ℕ)
+    → IsReachedFrom g facts i → i < g.facts
 reached_known p g facts h over known i (f, m, (n, r)) =
-    reached_inside g f (λ i. i < g.facts) (λ k j l c. subst (λ (b : ℕ). j < b) over.facts (conflict_below p h k j (conflict_of p g k j over c))) (All-contains (λ j. j < g.facts) facts f known m) n i r
+    reached_inside g f (λ i. i < g.facts) (λ k j l c. subst (λ (b : ℕ). j < b) over.facts (conflict_below p h k j (conflict_of p g k j over c)))
+    (All-contains (λ j. j < g.facts) facts f known m) n i r
 
 -- ---- the present facts and the core that grows
 
@@ -91,7 +95,8 @@ module _ (p : Priority) (g : ConflictGraph) (present start lost : List ℕ) (ask
   pub lost_settled : All (IsSettled p present) lost
   lost_settled = All-of (IsSettled p present) lost (λ j m. elim (cases_Bool (has p.own j)) [
     | inl t ↦ inl (has_there p.own j t)
-    | inr f ↦ inr (blocked_outside j (of_lost j m) (All-contains (λ i. ¬ Contains present i) lost j asked.outside m) (λ o. true≢false (sym (has_true p.own j o) ∙ f)))
+    | inr f ↦ inr (blocked_outside j (of_lost j m) (All-contains (λ i. ¬ Contains present i) lost j asked.outside m)
+        (λ o. true≢false (sym (has_true p.own j o) ∙ f)))
   ])
 
   -- and so may what conflicts with one of them
@@ -102,7 +107,8 @@ module _ (p : Priority) (g : ConflictGraph) (present start lost : List ℕ) (ask
 
   -- ---- the beginning, one more kept fact, and the end
 
-  pub growing_begun : (first core : Growing) → ((i : ℕ) → Contains first.kept i ↔ Contains start i) → first.dropped ≡ [] → Drops p present (Contains lost) first core → AreSettled p core
+  pub growing_begun : (first core : Growing) → ((i : ℕ) → Contains first.kept i ↔ Contains start i) → first.dropped ≡ []
+      → Drops p present (Contains lost) first core → AreSettled p core
       → IsGrowing p g present start lost 0 core
   growing_begun first core kept none d settled = record {
     settled = settled;
@@ -115,7 +121,8 @@ module _ (p : Priority) (g : ConflictGraph) (present start lost : List ℕ) (ask
   }
     where
       parts : (i : ℕ) → Contains core.kept i → Contains start i ⊎ Contains d.more i
-      parts i m = elim (Contains-append_cases first.kept d.more i (subst (λ (xs : List ℕ). Contains xs i) d.grown m)) [ inl n ↦ inl ((kept i).0 n) | inr n ↦ inr n ]
+      parts i m = elim (Contains-append_cases first.kept d.more i (subst (λ (xs : List ℕ). Contains xs i) d.grown m))
+          [ inl n ↦ inl ((kept i).0 n) | inr n ↦ inr n ]
 
       to : (j : ℕ) → Contains core.dropped j → Contains lost j
       to j m = elim ((d.exact j).0 m) [ inl n ↦ absurd (Contains-nil j (subst (λ (xs : List ℕ). Contains xs j) none n)) | inr n ↦ n ]
@@ -132,7 +139,8 @@ module _ (p : Priority) (g : ConflictGraph) (present start lost : List ℕ) (ask
     pub kept_few : AllPairs (λ i j. i ≡ j → ⊥) core.kept → length core.kept ≤ g.facts
     kept_few once = distinct_length g.facts core.kept once (All-of (λ i. i < g.facts) core.kept kept_known)
 
-    pub growing_more : (new : Growing) → next < length core.kept → Drops p present (Conflict p (get_or core.kept next 0)) core new → AreSettled p new → IsGrowing p g present start lost (next + 1) new
+    pub growing_more : (new : Growing) → next < length core.kept → Drops p present (Conflict p (get_or core.kept next 0)) core new → AreSettled p new
+        → IsGrowing p g present start lost (next + 1) new
     growing_more new l d settled = record {
       settled = settled;
       inside = λ i m. elim (parts i m) [ inl n ↦ w.inside i n | inr n ↦ (d.of i n).0 ];

@@ -22,7 +22,8 @@ settled_wider p old new more grown j (inl own) = inl own
 settled_wider p old new more grown j (inr (i, m, c, b)) = inr (i, wider old new more grown i m, c, b)
 
 -- the first facts of a list and one more
-pub start_more : (start : List ℕ) (k : ℕ) (old new : List ℕ) → k < length start → ((i : ℕ) → Contains old i ↔ Contains (take k start) i) → Gains (get_or start k 0) old new → (i : ℕ) → Contains new i ↔ Contains (take (k + 1) start) i
+pub start_more : (start : List ℕ) (k : ℕ) (old new : List ℕ) → k < length start → ((i : ℕ) → Contains old i ↔ Contains (take k start) i)
+    → Gains (get_or start k 0) old new → (i : ℕ) → Contains new i ↔ Contains (take (k + 1) start) i
 start_more start k old new l h gains i = (to, from)
   where
     fact : ℕ
@@ -32,10 +33,11 @@ start_more start k old new l h gains i = (to, from)
     next = take_more start k 0 l
 
     to : Contains new i → Contains (take (k + 1) start) i
-    to m = subst (λ (xs : List ℕ). Contains xs i) (sym next) (elim (Contains-append_cases old gains.more i (subst (λ (xs : List ℕ). Contains xs i) gains.grown m)) [
-      | inl n ↦ Contains-append_left (take k start) (fact ∷ []) i ((h i).0 n)
-      | inr n ↦ subst (Contains (take k start ++ fact ∷ [])) (sym (gains.of i n)) (Contains-push (take k start) fact)
-    ])
+    to m = subst (λ (xs : List ℕ). Contains xs i) (sym next) (elim
+        (Contains-append_cases old gains.more i (subst (λ (xs : List ℕ). Contains xs i) gains.grown m)) [
+          | inl n ↦ Contains-append_left (take k start) (fact ∷ []) i ((h i).0 n)
+          | inr n ↦ subst (Contains (take k start ++ fact ∷ [])) (sym (gains.of i n)) (Contains-push (take k start) fact)
+        ])
 
     from : Contains (take (k + 1) start) i → Contains new i
     from m = elim (Contains-push_cases (take k start) fact i (subst (λ (xs : List ℕ). Contains xs i) next m)) [
@@ -50,11 +52,13 @@ pub keeps_none : (p : Priority) (present : List ℕ) (fact : ℕ) (kept : List �
 keeps_none p present fact kept h = record { more = []; grown = sym (append-nil kept); of = λ i m. absurd (Contains-nil i m); settled = h }
 
 -- a kept fact that blocks it
-pub keeps_met : (p : Priority) (present : List ℕ) (fact : ℕ) (kept blockers : List ℕ) → ((j : ℕ) → Contains blockers j ↔ (Conflict p fact j × ¬ IsBetter p fact j)) → Meets blockers kept → Keeps p present fact kept kept
+pub keeps_met : (p : Priority) (present : List ℕ) (fact : ℕ) (kept blockers : List ℕ)
+    → ((j : ℕ) → Contains blockers j ↔ (Conflict p fact j × ¬ IsBetter p fact j)) → Meets blockers kept → Keeps p present fact kept kept
 keeps_met p present fact kept blockers exact (i, b, m) = keeps_none p present fact kept (inr (i, m, ((exact i).0 b).0, ((exact i).0 b).1))
 
 -- a present fact that blocks it
-pub keeps_one : (p : Priority) (present : List ℕ) (fact blocker : ℕ) (old new blockers : List ℕ) → ((j : ℕ) → Contains blockers j ↔ (Conflict p fact j × ¬ IsBetter p fact j)) → Contains blockers blocker → Contains present blocker
+pub keeps_one : (p : Priority) (present : List ℕ) (fact blocker : ℕ) (old new blockers : List ℕ)
+    → ((j : ℕ) → Contains blockers j ↔ (Conflict p fact j × ¬ IsBetter p fact j)) → Contains blockers blocker → Contains present blocker
     → Gains blocker old new → Keeps p present fact old new
 keeps_one p present fact blocker old new blockers exact b m gains = record {
   more = gains.more;
@@ -64,24 +68,29 @@ keeps_one p present fact blocker old new blockers exact b m gains = record {
 }
 
 -- a fact that present ones block has a present blocker
-pub meets_present : (p : Priority) (present : List ℕ) (fact : ℕ) (blockers : List ℕ) → ((j : ℕ) → Contains blockers j ↔ (Conflict p fact j × ¬ IsBetter p fact j)) → IsBlocked p (Contains present) fact → Meets blockers present
+pub meets_present : (p : Priority) (present : List ℕ) (fact : ℕ) (blockers : List ℕ)
+    → ((j : ℕ) → Contains blockers j ↔ (Conflict p fact j × ¬ IsBetter p fact j)) → IsBlocked p (Contains present) fact → Meets blockers present
 meets_present p present fact blockers exact (i, m, c, b) = (i, (exact i).1 (c, b), m)
 
 -- ---- one more dropped fact
 
-pub settled_more : (p : Priority) (present : List ℕ) (fact : ℕ) (old new : Growing) → Keeps p present fact old.kept new.kept → Gains fact old.dropped new.dropped → AreSettled p old → AreSettled p new
-settled_more p present fact old new keeps gains h j m = elim (Contains-append_cases old.dropped gains.more j (subst (λ (xs : List ℕ). Contains xs j) gains.grown m)) [
-  | inl n ↦ settled_wider p old.kept new.kept keeps.more keeps.grown j (h j n)
-  | inr n ↦ subst (IsSettled p new.kept) (sym (gains.of j n)) keeps.settled
-]
+pub settled_more : (p : Priority) (present : List ℕ) (fact : ℕ) (old new : Growing) → Keeps p present fact old.kept new.kept
+    → Gains fact old.dropped new.dropped → AreSettled p old → AreSettled p new
+settled_more p present fact old new keeps gains h j m = elim (Contains-append_cases old.dropped gains.more j
+    (subst (λ (xs : List ℕ). Contains xs j) gains.grown m)) [
+      | inl n ↦ settled_wider p old.kept new.kept keeps.more keeps.grown j (h j n)
+      | inr n ↦ subst (IsSettled p new.kept) (sym (gains.of j n)) keeps.settled
+    ]
 
-pub drops_one : (p : Priority) (present : List ℕ) (fact : ℕ) (old new : Growing) → Keeps p present fact old.kept new.kept → Gains fact old.dropped new.dropped → Drops p present (λ j. j ≡ fact) old new
+pub drops_one : (p : Priority) (present : List ℕ) (fact : ℕ) (old new : Growing) → Keeps p present fact old.kept new.kept → Gains fact old.dropped new.dropped
+    → Drops p present (λ j. j ≡ fact) old new
 drops_one p present fact old new keeps gains = record {
   more = keeps.more;
   grown = keeps.grown;
   of = λ i m. let w = keeps.of i m in (w.0, (fact, gains.has, w.1));
   exact = λ j. (
-    (λ m. elim (Contains-append_cases old.dropped gains.more j (subst (λ (xs : List ℕ). Contains xs j) gains.grown m)) [ inl n ↦ inl n | inr n ↦ inr (gains.of j n) ]),
+    (λ m. elim (Contains-append_cases old.dropped gains.more j (subst (λ (xs : List ℕ). Contains xs j) gains.grown m))
+        [ inl n ↦ inl n | inr n ↦ inr (gains.of j n) ]),
     elim [ inl m ↦ wider old.dropped new.dropped gains.more gains.grown j m | inr e ↦ subst (Contains new.dropped) (sym e) gains.has ],
   );
 }
@@ -106,11 +115,16 @@ drops_none p present core = record {
 }
 
 -- one set and then another
-drops_then : (p : Priority) (present : List ℕ) (S T U : ℕ → Type 0) (old mid new : Growing) → ((j : ℕ) → U j ↔ (S j ⊎ T j)) → Drops p present S old mid → Drops p present T mid new → Drops p present U old new
+drops_then : (p : Priority) (present : List ℕ) (S T U : ℕ → Type 0) (old mid new : Growing) → ((j : ℕ) → U j ↔ (S j ⊎ T j)) → Drops p present S old mid
+    → Drops p present T mid new → Drops p present U old new
 drops_then p present S T U old mid new same f g = record {
   more = f.more ++ g.more;
   grown = g.grown ∙ ap (λ (xs : List ℕ). xs ++ g.more) f.grown ∙ append_assoc old.kept f.more g.more;
-  of = λ i m. elim (Contains-append_cases f.more g.more i m) [ inl n ↦ let w = f.of i n in (w.0, (w.1.0, (g.exact w.1.0).1 (inl w.1.1), w.1.2)) | inr n ↦ g.of i n ];
+  of = λ i m. elim (Contains-append_cases f.more g.more i m) [
+    | inl n ↦ let w = f.of i n in
+        (w.0, (w.1.0, (g.exact w.1.0).1 (inl w.1.1), w.1.2))
+    | inr n ↦ g.of i n
+  ];
   exact = λ j. (to j, from j);
 }
   where
@@ -124,25 +138,31 @@ drops_then p present S T U old mid new same f g = record {
     from j (inl o) = (g.exact j).1 (inl ((f.exact j).1 (inl o)))
     from j (inr u) = elim ((same j).0 u) [ inl s ↦ (g.exact j).1 (inl ((f.exact j).1 (inr s))) | inr t ↦ (g.exact j).1 (inr t) ]
 
-pub drops_more : (p : Priority) (present facts : List ℕ) (k : ℕ) (old mid new : Growing) → k < length facts → Drops p present (Contains (take k facts)) old mid → Drops p present (λ j. j ≡ get_or facts k 0) mid new
+pub drops_more : (p : Priority) (present facts : List ℕ) (k : ℕ) (old mid new : Growing) → k < length facts
+    → Drops p present (Contains (take k facts)) old mid → Drops p present (λ j. j ≡ get_or facts k 0) mid new
     → Drops p present (Contains (take (k + 1) facts)) old new
-drops_more p present facts k old mid new l f g = drops_then p present (Contains (take k facts)) (λ j. j ≡ get_or facts k 0) (Contains (take (k + 1) facts)) old mid new (λ j. (to j, from j)) f g
+drops_more p present facts k old mid new l f g = drops_then p present (Contains (take k facts)) (λ j. j ≡ get_or facts k 0) (Contains (take (k + 1) facts))
+    old mid new (λ j. (to j, from j)) f g
   where
     next : take (k + 1) facts ≡ take k facts ++ get_or facts k 0 ∷ []
     next = take_more facts k 0 l
 
     to : (j : ℕ) → Contains (take (k + 1) facts) j → Contains (take k facts) j ⊎ (j ≡ get_or facts k 0)
-    to j m = elim (Contains-push_cases (take k facts) (get_or facts k 0) j (subst (λ (xs : List ℕ). Contains xs j) next m)) [ inl n ↦ inl n | inr e ↦ inr (sym e) ]
+    to j m = elim (Contains-push_cases (take k facts) (get_or facts k 0) j (subst (λ (xs : List ℕ). Contains xs j) next m))
+        [ inl n ↦ inl n | inr e ↦ inr (sym e) ]
 
     from : (j : ℕ) → Contains (take k facts) j ⊎ (j ≡ get_or facts k 0) → Contains (take (k + 1) facts) j
     from j (inl n) = subst (λ (xs : List ℕ). Contains xs j) (sym next) (Contains-append_left (take k facts) (get_or facts k 0 ∷ []) j n)
-    from j (inr e) = subst (λ (xs : List ℕ). Contains xs j) (sym next) (subst (Contains (take k facts ++ get_or facts k 0 ∷ [])) (sym e) (Contains-push (take k facts) (get_or facts k 0)))
+    from j (inr e) = subst (λ (xs : List ℕ). Contains xs j) (sym next)
+        (subst (Contains (take k facts ++ get_or facts k 0 ∷ [])) (sym e) (Contains-push (take k facts) (get_or facts k 0)))
 
-pub drops_all : (p : Priority) (present facts : List ℕ) (k : ℕ) (old new : Growing) → length facts ≤ k → Drops p present (Contains (take k facts)) old new → Drops p present (Contains facts) old new
+pub drops_all : (p : Priority) (present facts : List ℕ) (k : ℕ) (old new : Growing) → length facts ≤ k → Drops p present (Contains (take k facts)) old new
+    → Drops p present (Contains facts) old new
 drops_all p present facts k old new l h = rw (take_all k facts l) at h
 
 -- the same facts by another word
-drops_as : (p : Priority) (present : List ℕ) (S T : ℕ → Type 0) (old new : Growing) → ((j : ℕ) → S j ↔ T j) → Drops p present S old new → Drops p present T old new
+drops_as : (p : Priority) (present : List ℕ) (S T : ℕ → Type 0) (old new : Growing) → ((j : ℕ) → S j ↔ T j) → Drops p present S old new
+    → Drops p present T old new
 drops_as p present S T old new same h = record {
   more = h.more;
   grown = h.grown;
@@ -155,13 +175,15 @@ drops_as p present S T old new same h = record {
 
 -- ---- all that conflict with a fact
 
-pub drops_rivals : (p : Priority) (g : ConflictGraph) (present rivals : List ℕ) (kept k : ℕ) (old new : Growing) → IsOver p g → ((j : ℕ) → Contains rivals j ↔ AreInConflict g.clashes kept j) → length rivals ≤ k
+pub drops_rivals : (p : Priority) (g : ConflictGraph) (present rivals : List ℕ) (kept k : ℕ) (old new : Growing) → IsOver p g
+    → ((j : ℕ) → Contains rivals j ↔ AreInConflict g.clashes kept j) → length rivals ≤ k
     → Drops p present (Contains (take k rivals)) old new → Drops p present (Conflict p kept) old new
 drops_rivals p g present rivals kept k old new over exact l h = drops_as p present (Contains rivals) (Conflict p kept) old new
     (λ j. ((λ m. conflict_of p g kept j over ((exact j).0 m)), (λ c. (exact j).1 (conflict_over p g kept j over c)))) (drops_all p present rivals k old new l h)
 
 -- a kept fact blocks what conflicts with it and isn't better
-pub blocks_rival : (p : Priority) (kept : List ℕ) (fact rival : ℕ) → Contains kept fact → Conflict p fact rival → ¬ IsBetter p rival fact → IsSettled p kept rival
+pub blocks_rival : (p : Priority) (kept : List ℕ) (fact rival : ℕ) → Contains kept fact → Conflict p fact rival → ¬ IsBetter p rival fact
+    → IsSettled p kept rival
 blocks_rival p kept fact rival m c b = inr (fact, m, Conflict-sym p fact rival c, b)
 
 -- what may be dropped and isn't self-inconsistent is blocked

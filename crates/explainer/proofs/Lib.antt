@@ -2,4 +2,3 @@ pub mod CoreLemmas
 pub mod GrowthLemmas
 pub mod MissingLemmas
 pub mod SetLemmas
-pub mod TestLemmas

@@ -1,5 +1,6 @@
 -- The least fact of a cause that isn't present, and those of many causes.
-use Rattle.std.proofs.Common.{◌≡◌, ◌<◌, ◌≤◌, ◌+◌, ◌⊎◌, inl, inr, ℕ, List, [], ◌∷◌, ◌++◌, length, take, get_or, min, Option, None, Some, MatchOption, sym, ap, ◌∙◌, subst, arith, Contains, All}
+use Rattle.std.proofs.Common.{◌≡◌, ◌<◌, ◌≤◌, ◌+◌, ◌⊎◌, inl, inr, ℕ, List, [], ◌∷◌, ◌++◌, length, take, get_or, min, Option, None, Some, MatchOption, sym, ap}
+use Rattle.std.proofs.Common.{◌∙◌, subst, arith, Contains, All}
 use Rattle.std.proofs.lemmas.Bool.{cases_lt}
 use Rattle.std.proofs.lemmas.List.{take_more, take_all, get_or_default}
 use Rattle.std.proofs.lemmas.List.Elements.{All-contains, All-more, Contains-get_or, Contains-append_left, Contains-push, Contains-push_cases}
@@ -20,7 +21,8 @@ module _ (present cause : List ℕ) (k : ℕ) (l : k < length cause) where
   parts j m = Contains-push_cases (take k cause) (get_or cause k 0) j (subst (λ (xs : List ℕ). Contains xs j) next m)
 
   -- one more fact that is present
-  pub least_same : (least : Option ℕ) → Contains present (get_or cause k 0) → IsLeastOrNone present (take k cause) least → IsLeastOrNone present (take (k + 1) cause) least
+  pub least_same : (least : Option ℕ) → Contains present (get_or cause k 0) → IsLeastOrNone present (take k cause) least
+      → IsLeastOrNone present (take (k + 1) cause) least
   least_same None m all = All-more (Contains present) cause k 0 l all m
   least_same (Some i) m w = record {
     inside = earlier i w.inside;
@@ -30,7 +32,8 @@ module _ (present cause : List ℕ) (k : ℕ) (l : k < length cause) where
 
   -- one more fact that isn't
   pub least_more : (least : Option ℕ) (lesser : ℕ) → ¬ Contains present (get_or cause k 0) → IsLeastOrNone present (take k cause) least
-      → MatchOption least (lesser ≡ get_or cause k 0) (λ (other : ℕ). lesser ≡ min other (get_or cause k 0)) → IsLeastOutside present (take (k + 1) cause) lesser
+      → MatchOption least (lesser ≡ get_or cause k 0) (λ (other : ℕ). lesser ≡ min other (get_or cause k 0))
+      → IsLeastOutside present (take (k + 1) cause) lesser
   least_more None lesser out all is = record {
     inside = subst (Contains (take (k + 1) cause)) (sym is) here;
     outside = λ m. out (subst (Contains present) is m);
@@ -65,7 +68,8 @@ module _ (present cause : List ℕ) (k : ℕ) (l : k < length cause) where
 pub least_of_none : (present : List ℕ) → AreLeastOf [] present []
 least_of_none present = record { each = λ cause m. absurd (Contains-nil cause m); only = λ i m. absurd (Contains-nil i m) }
 
-pub least_of_more : (causes : List (List ℕ)) (present facts : List ℕ) (k fact : ℕ) → k < length causes → AreLeastOf (take k causes) present facts → IsLeastOutside present (get_or causes k []) fact
+pub least_of_more : (causes : List (List ℕ)) (present facts : List ℕ) (k fact : ℕ) → k < length causes → AreLeastOf (take k causes) present facts
+    → IsLeastOutside present (get_or causes k []) fact
     → AreLeastOf (take (k + 1) causes) present (facts ++ fact ∷ [])
 least_of_more causes present facts k fact l h least = record {
   each = λ cause m. elim (Contains-push_cases (take k causes) (get_or causes k []) cause (subst (λ (xs : List (List ℕ)). Contains xs cause) next m)) [
@@ -87,7 +91,8 @@ least_of_more causes present facts k fact l h least = record {
     here : Contains (take (k + 1) causes) (get_or causes k [])
     here = subst (λ (xs : List (List ℕ)). Contains xs (get_or causes k [])) (sym next) (Contains-push (take k causes) (get_or causes k []))
 
-pub least_of_all : (causes : List (List ℕ)) (present facts sorted : List ℕ) (k : ℕ) → length causes ≤ k → AreLeastOf (take k causes) present facts → IsSorted facts sorted → AreMissing causes present sorted
+pub least_of_all : (causes : List (List ℕ)) (present facts sorted : List ℕ) (k : ℕ) → length causes ≤ k → AreLeastOf (take k causes) present facts
+    → IsSorted facts sorted → AreMissing causes present sorted
 least_of_all causes present facts sorted k l h s = record {
   ascending = s.ascending;
   exact = record {
@@ -105,9 +110,11 @@ none_present causes present facts h (cause, m, all) =
     let w = h.exact.each cause m in
     w.2.outside (All-contains (Contains present) cause w.0 all w.2.inside)
 
-pub some_present : (causes : List (List ℕ)) (present : List ℕ) (k : ℕ) → k < length causes → All (Contains present) (get_or causes k []) → SomeIsPresent causes present
+pub some_present : (causes : List (List ℕ)) (present : List ℕ) (k : ℕ) → k < length causes → All (Contains present) (get_or causes k [])
+    → SomeIsPresent causes present
 some_present causes present k l all = (get_or causes k [], Contains-get_or causes k [] l, all)
 
 -- the lent cause at a place
-pub cause_at : (causes items : List (List ℕ)) (k : ℕ) (item slice : List ℕ) → items ≡ causes → k < length items → item ≡ get_or items k item → slice ≡ item → slice ≡ get_or causes k []
+pub cause_at : (causes items : List (List ℕ)) (k : ℕ) (item slice : List ℕ) → items ≡ causes → k < length items → item ≡ get_or items k item → slice ≡ item
+    → slice ≡ get_or causes k []
 cause_at causes items k item slice lent l is same = same ∙ is ∙ get_or_default items k item [] l ∙ ap (λ (xs : List (List ℕ)). get_or xs k []) lent

@@ -1,5 +1,6 @@
 -- A set of facts by its keys: look-ups, one more fact, that no fact comes twice, and facts in both of two lists.
-use Rattle.std.proofs.Common.{◌≡◌, ◌≢◌, ◌<◌, ◌≤◌, inl, inr, ℕ, true, List, [], ◌∷◌, length, get_or, eqb, refl, sym, ◌∙◌, subst, arith, Contains, true≢false, eqb-true}
+use Rattle.std.proofs.Common.{◌≡◌, ◌≢◌, ◌<◌, ◌≤◌, inl, inr, ℕ, true, List, [], ◌∷◌, length, get_or, eqb, refl, sym, ◌∙◌, subst, arith, Contains, true≢false}
+use Rattle.std.proofs.Common.{eqb-true}
 use Rattle.std.specs.List.{AllPairs, IsDistinct, list_any}
 use Rattle.std.proofs.lemmas.Bool.{cases_Bool, eq-eqb}
 use Rattle.std.proofs.lemmas.List.{append-nil, get_or_default}

@@ -10,6 +10,3 @@ mod missing_facts;
 pub use cores::{Core, core_of};
 pub use laws::scope_covers_components;
 pub use missing_facts::missing;
-
-#[cfg(test)]
-mod tests;

@@ -1,5 +1,6 @@
 -- Places: when two are equal, and what a set of places keeps where one is put.
-use Rattle.std.proofs.Common.{◌≡◌, ◌⊎◌, inl, inr, ℕ, zero, suc, ◌<◌, ◌≤◌, Bool, true, false, ◌&&◌, ◌||◌, ◌==◌, List, [], ◌∷◌, ◌++◌, length, slice_get, Some, All, get_or, refl, sym, ap, ◌∙◌, arith, if◌then◌else◌, position}
+use Rattle.std.proofs.Common.{◌≡◌, ◌⊎◌, inl, inr, ℕ, zero, suc, ◌<◌, ◌≤◌, Bool, true, false, ◌&&◌, ◌||◌, ◌==◌, List, [], ◌∷◌, ◌++◌, length, slice_get, Some}
+use Rattle.std.proofs.Common.{All, get_or, refl, sym, ap, ◌∙◌, arith, if◌then◌else◌, position}
 use Rattle.std.proofs.lemmas.Option.{slice_get_within, slice_get-get_or}
 use Rattle.std.proofs.lemmas.Bool.Decides.{Decides-eqb}
 use Rattle.std.proofs.lemmas.List.{length_push, map-append}
@@ -88,7 +89,8 @@ longer_put places new = by (list_any (same new) places)
     by false = omega (arith, length_push places new)
 
 -- a place of a longer list is one of the shorter one, or the last
-place_of_pushed : (places : List Place) (new : Place) (i : ℕ) (p : Place) → slice_get (places ++ new ∷ []) i ≡ Some p → (slice_get places i ≡ Some p) ⊎ ((i ≡ length places) × (p ≡ new))
+place_of_pushed : (places : List Place) (new : Place) (i : ℕ) (p : Place) → slice_get (places ++ new ∷ []) i ≡ Some p → (slice_get places i ≡ Some p)
+    ⊎ ((i ≡ length places) × (p ≡ new))
 place_of_pushed [] new zero p at = inr (refl, cc at)
 place_of_pushed [] new (suc i) p at = absurd (omega (arith, slice_get_within (new ∷ []) (suc i) p at))
 place_of_pushed (q ∷ places) new zero p at = inl at
@@ -103,7 +105,8 @@ apart_pushed : (places : List Place) (new : Place) → ArePlaces places → list
 apart_pushed places new apart absent i j p a b = by (place_of_pushed places new i p a) (place_of_pushed places new j p b)
   where
     no : (k : ℕ) → slice_get places k ≡ Some p → p ≡ new → ⊥
-    no k at e = let there : list_any (same new) places ≡ true = found_at places k new (rw e at at) in let absent_too : list_any (same new) places ≡ false = absent in cc
+    no k at e = let there : list_any (same new) places ≡ true = found_at places k new (rw e at at) in let absent_too : list_any (same new) places ≡ false =
+        absent in cc
 
     by : (slice_get places i ≡ Some p) ⊎ ((i ≡ length places) × (p ≡ new)) → (slice_get places j ≡ Some p) ⊎ ((j ≡ length places) × (p ≡ new)) → i ≡ j
     by (inl x) (inl y) = apart i j p x y
@@ -119,12 +122,14 @@ apart_put places new apart = by (list_any (same new) places) refl
     by false e = apart_pushed places new apart e
 
 -- entries tell the same where a place is put
-pub told_put : (places : List Place) (new : Place) (entries : List KeyedNumber) → All (λ e. e.key < length places) entries → told_by (insert_key same places new) entries ≡ told_by places entries
+pub told_put : (places : List Place) (new : Place) (entries : List KeyedNumber) → All (λ e. e.key < length places) entries
+    → told_by (insert_key same places new) entries ≡ told_by places entries
 told_put places new [] named = refl
 told_put places new (e ∷ entries) named =
     let head : e.key < length places = All-head (λ (x : KeyedNumber). x.key < length places) e entries named in
     let before : slice_get places e.key ≡ Some (get_or places e.key new) = slice_get-get_or places e.key new head in
-    let here : slice_get (insert_key same places new) e.key ≡ slice_get places e.key = stays_put places new e.key (get_or places e.key new) before ∙ sym before in
+    let here : slice_get (insert_key same places new) e.key ≡ slice_get places e.key =
+    stays_put places new e.key (get_or places e.key new) before ∙ sym before in
     let more = told_put places new entries (All-tail (λ (x : KeyedNumber). x.key < length places) e entries named) in
     rw (here, more) refl
 
@@ -133,7 +138,8 @@ module _ (places : List Place) (entries : List KeyedNumber) (new : Place) (numbe
   pub whole_put : IsWhole (insert_key same places new) entries
   whole_put = record {
     apart = apart_put places new whole.apart;
-    named = All-weaker (λ (e : KeyedNumber). e.key < length places) (λ (e : KeyedNumber). e.key < length (insert_key same places new)) (λ e h. omega (arith, h, longer_put places new)) entries whole.named;
+    named = All-weaker (λ (e : KeyedNumber). e.key < length places) (λ (e : KeyedNumber). e.key < length (insert_key same places new))
+        (λ e h. omega (arith, h, longer_put places new)) entries whole.named;
   }
 
   module _ (at : slice_get (insert_key same places new) key ≡ Some new) where
@@ -141,10 +147,12 @@ module _ (places : List Place) (entries : List KeyedNumber) (new : Place) (numbe
     pub whole_pushed : IsWhole (insert_key same places new) (entries ++ (record { key = key; value = number }) ∷ [])
     whole_pushed = record {
       apart = whole_put.apart;
-      named = All-push (λ (e : KeyedNumber). e.key < length (insert_key same places new)) entries (record { key = key; value = number }) whole_put.named (slice_get_within (insert_key same places new) key new at);
+      named = All-push (λ (e : KeyedNumber). e.key < length (insert_key same places new)) entries (record { key = key; value = number }) whole_put.named
+          (slice_get_within (insert_key same places new) key new at);
     }
 
-    pub told_pushed : told_by (insert_key same places new) (entries ++ (record { key = key; value = number }) ∷ []) ≡ told_by places entries ++ (Some new, number) ∷ []
+    pub told_pushed : told_by (insert_key same places new) (entries ++ (record { key = key; value = number }) ∷ []) ≡ told_by places entries
+        ++ (Some new, number) ∷ []
     told_pushed =
         map-append (λ (e : KeyedNumber). (slice_get (insert_key same places new) e.key, e.value)) entries ((record { key = key; value = number }) ∷ [])
         ∙ rw (told_put places new entries whole.named, at) refl

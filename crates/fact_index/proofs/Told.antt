@@ -1,5 +1,7 @@
 -- What gathered facts tell: for each place the numbers of the facts that stand there, ascending.
-use Rattle.std.proofs.Common.{◌≡◌, ℕ, zero, suc, ◌+◌, ◌*◌, ◌<◌, ◌≤◌, Bool, true, false, ◌&&◌, ◌||◌, ◌==◌, List, [], ◌∷◌, ◌++◌, length, slice_get, Option, Some, None, All, map, get_or, take, refl, sym, ap, ◌∙◌, arith, if◌then◌else◌, subst, Decides, Contains, length-append, ◌^◌, length-take}
+use Rattle.std.proofs.Common.{◌≡◌, ℕ, zero, suc, ◌+◌, ◌*◌, ◌<◌, ◌≤◌, Bool, true, false, ◌&&◌, ◌||◌, ◌==◌, List, [], ◌∷◌, ◌++◌, length, slice_get, Option}
+use Rattle.std.proofs.Common.{Some, None, All, map, get_or, take, refl, sym, ap, ◌∙◌, arith, if◌then◌else◌, subst, Decides, Contains, length-append, ◌^◌}
+use Rattle.std.proofs.Common.{length-take}
 use Rattle.std.proofs.lemmas.Option.{slice_get_within, slice_get-get_or}
 use Rattle.std.proofs.lemmas.Bool.Decides.{Decides-eqb, Decides-and}
 use Rattle.std.proofs.lemmas.List.{length-map, append_assoc, append-nil, take_more}
@@ -22,7 +24,8 @@ use Rattle.fact_index.proofs.PlaceLemmas.{same, same_is, same_refl}
 
 -- ---- one more fact
 
-pub told_of-push : (number : ℕ) (facts : List Fact) (f : Fact) → told_of number (facts ++ f ∷ []) ≡ told_of number facts ++ map (λ p. (Some p, number + length facts)) (places_of f)
+pub told_of-push : (number : ℕ) (facts : List Fact) (f : Fact)
+    → told_of number (facts ++ f ∷ []) ≡ told_of number facts ++ map (λ p. (Some p, number + length facts)) (places_of f)
 told_of-push number [] f =
     let h : number ≡ number + 0 = omega arith in
     append-nil _ ∙ ap (λ n. map (λ p. (Some p, n)) (places_of f)) h
@@ -48,7 +51,8 @@ length-told_of number (f ∷ facts) =
     omega (arith, length-append (telling f number) (told_of (suc number) facts), places_few f number, length-told_of (suc number) facts)
 
 -- there are at most three entries for each fact
-pub few_entries : (places : List Place) (entries : List KeyedNumber) (facts : List Fact) → told_by places entries ≡ told_of 0 facts → length entries ≤ 3 * length facts
+pub few_entries : (places : List Place) (entries : List KeyedNumber) (facts : List Fact) → told_by places entries ≡ told_of 0 facts
+    → length entries ≤ 3 * length facts
 few_entries places entries facts e =
     let all : length (told_by places entries) ≡ length entries = length-map entries (λ (x : KeyedNumber). (slice_get places x.key, x.value)) in
     omega (arith, all, ap length e, length-told_of 0 facts)
@@ -89,10 +93,12 @@ stands_at (place.Concept a) (fact.Concept b c) = Decides-same _ _ (or_false (a =
 stands_at (place.Concept a) (fact.Link b c d) = never
 stands_at (place.Role a) (fact.Concept b c) = never
 stands_at (place.Role a) (fact.Link b c d) = Decides-same _ _ (or_false (a == b)) (Decides-eqb a b)
-stands_at (place.Member a i) (fact.Concept b c) = Decides-same _ _ (or_false (a == b && i == c)) (Decides-and (a == b) (i == c) (Decides-eqb a b) (Decides-eqb i c))
+stands_at (place.Member a i) (fact.Concept b c) = Decides-same _ _ (or_false (a == b && i == c))
+    (Decides-and (a == b) (i == c) (Decides-eqb a b) (Decides-eqb i c))
 stands_at (place.Member a i) (fact.Link b c d) = never
 stands_at (place.From a i) (fact.Concept b c) = never
-stands_at (place.From a i) (fact.Link b c d) = Decides-same _ _ (or_false (a == b && i == c)) (Decides-and (a == b) (i == c) (Decides-eqb a b) (Decides-eqb i c))
+stands_at (place.From a i) (fact.Link b c d) = Decides-same _ _ (or_false (a == b && i == c))
+    (Decides-and (a == b) (i == c) (Decides-eqb a b) (Decides-eqb i c))
 stands_at (place.To a i) (fact.Concept b c) = never
 stands_at (place.To a i) (fact.Link b c d) = Decides-same _ _ (or_false (a == b && i == d)) (Decides-and (a == b) (i == d) (Decides-eqb a b) (Decides-eqb i d))
 
@@ -101,7 +107,8 @@ one true n xs = refl
 one false n xs = refl
 
 -- a fact tells its number once of each of its places
-picked-fact : (p : Place) (f : Fact) (n : ℕ) (more : List (Option Place × ℕ)) → picked p (map (λ q. (Some q, n)) (places_of f) ++ more) ≡ (if stands p f then n ∷ picked p more else picked p more)
+picked-fact : (p : Place) (f : Fact) (n : ℕ) (more : List (Option Place × ℕ))
+    → picked p (map (λ q. (Some q, n)) (places_of f) ++ more) ≡ (if stands p f then n ∷ picked p more else picked p more)
 picked-fact (place.Concept a) (fact.Concept b c) n more = one (a == b) n (picked (place.Concept a) more)
 picked-fact (place.Concept a) (fact.Link b c d) n more = refl
 picked-fact (place.Role a) (fact.Concept b c) n more = refl
@@ -149,7 +156,8 @@ module _ (places : List Place) (apart : ArePlaces places) (key : ℕ) (p : Place
       let is = same_key e (All-head (λ (x : KeyedNumber). x.key < length places) e entries named) in
       by (e.key == key) refl is more
     where
-      by : (b : Bool) → (e.key == key) ≡ b → (e.key == key) ≡ is_at p (slice_get places e.key) → values_at entries key ≡ picked p (told_by places entries) → values_at (e ∷ entries) key ≡ picked p (told_by places (e ∷ entries))
+      by : (b : Bool) → (e.key == key) ≡ b → (e.key == key) ≡ is_at p (slice_get places e.key) → values_at entries key ≡ picked p (told_by places entries)
+          → values_at (e ∷ entries) key ≡ picked p (told_by places (e ∷ entries))
       by true is same more = let h : is_at p (slice_get places e.key) ≡ true = sym same ∙ is in rw (is, h) (ap (λ xs. e.value ∷ xs) more)
       by false is same more = let h : is_at p (slice_get places e.key) ≡ false = sym same ∙ is in rw (is, h) more
 
@@ -169,7 +177,8 @@ standing-from : (p : Place) (number low : ℕ) (facts : List Fact) → low ≤ n
 standing-from p number low [] le = λ k d l. absurd (omega arith)
 standing-from p number low (f ∷ facts) le = by (stands p f) (standing-from p (suc number) low facts (omega arith))
   where
-    by : (b : Bool) → All (λ n. low ≤ n) (standing p (suc number) facts) → All (λ n. low ≤ n) (if b then number ∷ standing p (suc number) facts else standing p (suc number) facts)
+    by : (b : Bool) → All (λ n. low ≤ n) (standing p (suc number) facts)
+        → All (λ n. low ≤ n) (if b then number ∷ standing p (suc number) facts else standing p (suc number) facts)
     by true more = All-cons_ℕ (λ n. low ≤ n) number (standing p (suc number) facts) le more
     by false more = more
 
@@ -177,12 +186,15 @@ standing-ascends : (p : Place) (number : ℕ) (facts : List Fact) → IsAscendin
 standing-ascends p number [] = λ i j d i_lt j_lt. absurd (omega arith)
 standing-ascends p number (f ∷ facts) = by (stands p f) (standing-ascends p (suc number) facts)
   where
-    by : (b : Bool) → IsAscending (standing p (suc number) facts) → IsAscending (if b then number ∷ standing p (suc number) facts else standing p (suc number) facts)
-    by true more = AllPairs-cons number (standing p (suc number) facts) (λ k d l. omega (arith, standing-from p (suc number) (suc number) facts (omega arith) k d l)) more
+    by : (b : Bool) → IsAscending (standing p (suc number) facts)
+        → IsAscending (if b then number ∷ standing p (suc number) facts else standing p (suc number) facts)
+    by true more = AllPairs-cons number (standing p (suc number) facts)
+        (λ k d l. omega (arith, standing-from p (suc number) (suc number) facts (omega arith) k d l)) more
     by false more = more
 
 -- exactly the facts at the place are told
-standing-right : (p : Place) (number : ℕ) (facts : List Fact) (n : ℕ) → Contains (standing p number facts) n → (k : ℕ) × (n ≡ number + k) × ((f : Fact) × StandsAt p f × (slice_get facts k ≡ Some f))
+standing-right : (p : Place) (number : ℕ) (facts : List Fact) (n : ℕ) → Contains (standing p number facts) n → (k : ℕ) × (n ≡ number + k)
+    × ((f : Fact) × StandsAt p f × (slice_get facts k ≡ Some f))
 standing-right p number [] n (k, l, e) = absurd (omega arith)
 standing-right p number (f ∷ facts) n there = by (stands p f) refl (standing-right p (suc number) facts n) there
   where
@@ -200,7 +212,8 @@ standing-right p number (f ∷ facts) n there = by (stands p f) refl (standing-r
     by true is more (suc k, l, e) = later (more (k, omega arith, e))
     by false is more there = later (more there)
 
-standing-all : (p : Place) (number : ℕ) (facts : List Fact) (k : ℕ) (f : Fact) → StandsAt p f → slice_get facts k ≡ Some f → Contains (standing p number facts) (number + k)
+standing-all : (p : Place) (number : ℕ) (facts : List Fact) (k : ℕ) (f : Fact) → StandsAt p f → slice_get facts k ≡ Some f
+    → Contains (standing p number facts) (number + k)
 standing-all p number [] k f here at = absurd (omega (arith, slice_get_within [] k f at))
 standing-all p number (g ∷ facts) zero f here at =
     let is : g ≡ f = cc at in
@@ -208,14 +221,18 @@ standing-all p number (g ∷ facts) zero f here at =
     rw there (0, omega arith, omega arith)
 standing-all p number (g ∷ facts) (suc k) f here at = by (stands p g) (standing-all p (suc number) facts k f here at)
   where
-    by : (b : Bool) → Contains (standing p (suc number) facts) (suc number + k) → Contains (if b then number ∷ standing p (suc number) facts else standing p (suc number) facts) (number + suc k)
-    by true more = let h : suc number + k ≡ number + suc k = omega arith in Contains-later number (standing p (suc number) facts) (number + suc k) (subst (Contains (standing p (suc number) facts)) h more)
+    by : (b : Bool) → Contains (standing p (suc number) facts) (suc number + k)
+        → Contains (if b then number ∷ standing p (suc number) facts else standing p (suc number) facts) (number + suc k)
+    by true more = let h : suc number + k ≡ number + suc k = omega arith in
+        Contains-later number (standing p (suc number) facts) (number + suc k) (subst (Contains (standing p (suc number) facts)) h more)
     by false more = let h : suc number + k ≡ number + suc k = omega arith in subst (Contains (standing p (suc number) facts)) h more
 
 -- the values at a place's number are the numbers of the facts there
-pub key_numbers : (places : List Place) (entries : List KeyedNumber) (facts : List Fact) → IsWhole places entries → told_by places entries ≡ told_of 0 facts → (key : ℕ) (p : Place) → slice_get places key ≡ Some p → AreNumbers (StandsAt p) facts (values_at entries key)
+pub key_numbers : (places : List Place) (entries : List KeyedNumber) (facts : List Fact) → IsWhole places entries → told_by places entries ≡ told_of 0 facts
+    → (key : ℕ) (p : Place) → slice_get places key ≡ Some p → AreNumbers (StandsAt p) facts (values_at entries key)
 key_numbers places entries facts whole told key p at =
-    let is : values_at entries key ≡ standing p 0 facts = values_at-told places whole.apart key p at entries whole.named ∙ ap (picked p) told ∙ picked-told_of p 0 facts in
+    let is : values_at entries key ≡ standing p 0 facts = values_at-told places whole.apart key p at entries whole.named ∙ ap (picked p) told
+    ∙ picked-told_of p 0 facts in
     rw is (record {
       ascending = standing-ascends p 0 facts;
       exact = λ i. (
@@ -225,7 +242,8 @@ key_numbers places entries facts whole told key p at =
     })
 
 -- a place of which an entry tells has a number
-picked_key : (p : Place) (places : List Place) (entries : List KeyedNumber) (n : ℕ) → Contains (picked p (told_by places entries)) n → (key : ℕ) × (slice_get places key ≡ Some p)
+picked_key : (p : Place) (places : List Place) (entries : List KeyedNumber) (n : ℕ) → Contains (picked p (told_by places entries)) n → (key : ℕ)
+    × (slice_get places key ≡ Some p)
 picked_key p places [] n (k, l, e) = absurd (omega arith)
 picked_key p places (e ∷ entries) n there = by (slice_get places e.key) refl there (picked_key p places entries n)
   where
@@ -235,7 +253,8 @@ picked_key p places (e ∷ entries) n there = by (slice_get places e.key) refl t
     rest : List ℕ
     rest = picked p (told_by places entries)
 
-    found : (q : Place) (b : Bool) → same p q ≡ b → slice_get places e.key ≡ Some q → Contains (if b then e.value ∷ rest else rest) n → (Contains rest n → Found) → Found
+    found : (q : Place) (b : Bool) → same p q ≡ b → slice_get places e.key ≡ Some q → Contains (if b then e.value ∷ rest else rest) n
+        → (Contains rest n → Found) → Found
     found q true is at there more = (e.key, at ∙ ap Some (sym (same_is p q is)))
     found q false is at there more = more there
 
@@ -244,19 +263,22 @@ picked_key p places (e ∷ entries) n there = by (slice_get places e.key) refl t
     by (Some q) at there more = found q (same p q) refl at there more
 
 -- each place of a fact has a number
-pub all_told : (places : List Place) (entries : List KeyedNumber) (facts : List Fact) → told_by places entries ≡ told_of 0 facts → (i : ℕ) (f : Fact) (p : Place) → slice_get facts i ≡ Some f → StandsAt p f → (key : ℕ) × (slice_get places key ≡ Some p)
+pub all_told : (places : List Place) (entries : List KeyedNumber) (facts : List Fact) → told_by places entries ≡ told_of 0 facts
+    → (i : ℕ) (f : Fact) (p : Place) → slice_get facts i ≡ Some f → StandsAt p f → (key : ℕ) × (slice_get places key ≡ Some p)
 all_told places entries facts told i f p at here =
     let is : picked p (told_by places entries) ≡ standing p 0 facts = ap (picked p) told ∙ picked-told_of p 0 facts in
     picked_key p places entries (0 + i) (rw is (standing-all p 0 facts i f here at))
 
 -- one more fact is told
-pub gather_more : (facts : List Fact) (i : ℕ) (d : Fact) (old new : List (Option Place × ℕ)) → i < length facts → old ≡ told_of 0 (take i facts) → new ≡ old ++ map (λ p. (Some p, i)) (places_of (get_or facts i d)) → new ≡ told_of 0 (take (i + 1) facts)
+pub gather_more : (facts : List Fact) (i : ℕ) (d : Fact) (old new : List (Option Place × ℕ)) → i < length facts → old ≡ told_of 0 (take i facts)
+    → new ≡ old ++ map (λ p. (Some p, i)) (places_of (get_or facts i d)) → new ≡ told_of 0 (take (i + 1) facts)
 gather_more facts i d old new lt before more =
     let size : 0 + length (take i facts) ≡ i = omega (arith, length-take i facts) in
     rw (take_more facts i d lt, told_of-push 0 (take i facts) (get_or facts i d), size, ← before) more
 
 -- the lists by the numbers of the places are those of the places
-pub indexed : (places : List Place) (entries : List KeyedNumber) (facts : List Fact) (count : ℕ) (lists : List (List ℕ)) → AreDistinct facts → length facts < 2 ^ 31 → IsWhole places entries → told_by places entries ≡ told_of 0 facts → count ≡ length places → count < 2 ^ 32
+pub indexed : (places : List Place) (entries : List KeyedNumber) (facts : List Fact) (count : ℕ) (lists : List (List ℕ)) → AreDistinct facts
+    → length facts < 2 ^ 31 → IsWhole places entries → told_by places entries ≡ told_of 0 facts → count ≡ length places → count < 2 ^ 32
     → AreGrouped entries count lists → IsIndexed facts places lists
 indexed places entries facts count lists distinct few whole told is fits grouped = record {
   distinct = distinct;

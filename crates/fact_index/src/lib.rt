@@ -4,7 +4,5 @@
 mod gathered;
 mod index;
 mod place;
-#[cfg(test)]
-mod tests;
 
 pub use index::Index;

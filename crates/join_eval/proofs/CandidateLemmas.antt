@@ -31,10 +31,12 @@ module _ (facts : List Fact) (bindings : List Binding) (numbers : List ℕ) (p :
       pred v t (fact.Concept q c) h = h.0
       pred v t (fact.Link q c d) h = h
 
-  pub by_member : (t : Term) (i : ℕ) → IsKnown bindings t i → AreNumbers (HasFirst kind.Concept p i) facts numbers → HasEach facts bindings (atom.Concept p t) (Contains numbers)
+  pub by_member : (t : Term) (i : ℕ) → IsKnown bindings t i → AreNumbers (HasFirst kind.Concept p i) facts numbers
+      → HasEach facts bindings (atom.Concept p t) (Contains numbers)
   by_member t i known are v n f agrees at is = (are.exact n).1 (f, first v t f (known v) agrees is, at)
     where
-      first : (v : ℕ → ℕ) (t : Term) (f : Fact) → ((d : ℕ) → Agrees bindings v → TermIs v t d ↔ (d ≡ i)) → Agrees bindings v → AtomIs v (atom.Concept p t) f → HasFirst kind.Concept p i f
+      first : (v : ℕ → ℕ) (t : Term) (f : Fact) → ((d : ℕ) → Agrees bindings v → TermIs v t d ↔ (d ≡ i)) → Agrees bindings v → AtomIs v (atom.Concept p t) f
+          → HasFirst kind.Concept p i f
       first v t (fact.Concept q c) known agrees h = (h.0, sym ((known c agrees).0 h.1))
       first v t (fact.Link q c d) known agrees h = h
 
@@ -45,17 +47,21 @@ module _ (facts : List Fact) (bindings : List Binding) (numbers : List ℕ) (p :
       pred v s t (fact.Concept q c) h = h
       pred v s t (fact.Link q c d) h = h.0
 
-  pub by_from : (s t : Term) (i : ℕ) → IsKnown bindings s i → AreNumbers (HasFirst kind.Link p i) facts numbers → HasEach facts bindings (atom.Link p s t) (Contains numbers)
+  pub by_from : (s t : Term) (i : ℕ) → IsKnown bindings s i → AreNumbers (HasFirst kind.Link p i) facts numbers
+      → HasEach facts bindings (atom.Link p s t) (Contains numbers)
   by_from s t i known are v n f agrees at is = (are.exact n).1 (f, first v s t f (known v) agrees is, at)
     where
-      first : (v : ℕ → ℕ) (s t : Term) (f : Fact) → ((d : ℕ) → Agrees bindings v → TermIs v s d ↔ (d ≡ i)) → Agrees bindings v → AtomIs v (atom.Link p s t) f → HasFirst kind.Link p i f
+      first : (v : ℕ → ℕ) (s t : Term) (f : Fact) → ((d : ℕ) → Agrees bindings v → TermIs v s d ↔ (d ≡ i)) → Agrees bindings v → AtomIs v (atom.Link p s t) f
+          → HasFirst kind.Link p i f
       first v s t (fact.Concept q c) known agrees h = h
       first v s t (fact.Link q c d) known agrees h = (h.0, sym ((known c agrees).0 h.1))
 
-  pub by_to : (s t : Term) (i : ℕ) → IsKnown bindings t i → AreNumbers (HasSecond p i) facts numbers → HasEach facts bindings (atom.Link p s t) (Contains numbers)
+  pub by_to : (s t : Term) (i : ℕ) → IsKnown bindings t i → AreNumbers (HasSecond p i) facts numbers
+      → HasEach facts bindings (atom.Link p s t) (Contains numbers)
   by_to s t i known are v n f agrees at is = (are.exact n).1 (f, second v s t f (known v) agrees is, at)
     where
-      second : (v : ℕ → ℕ) (s t : Term) (f : Fact) → ((d : ℕ) → Agrees bindings v → TermIs v t d ↔ (d ≡ i)) → Agrees bindings v → AtomIs v (atom.Link p s t) f → HasSecond p i f
+      second : (v : ℕ → ℕ) (s t : Term) (f : Fact) → ((d : ℕ) → Agrees bindings v → TermIs v t d ↔ (d ≡ i)) → Agrees bindings v → AtomIs v (atom.Link p s t) f
+          → HasSecond p i f
       second v s t (fact.Concept q c) known agrees h = h
       second v s t (fact.Link q c d) known agrees h = (h.0, sym ((known d agrees).0 h.2))
 

@@ -44,6 +44,7 @@ module _ (facts : List Fact) (q : Query) (limit : ℕ) (old keys : List Row) (no
     -- and within the limit there are no more
     pub not_more : length keys ≤ limit → HasMoreHits facts q limit → ⊥
     not_more few more =
-        let sub : (h : Hit) → Contains more.items h → Contains (map hit_of keys) h = λ h there. are_hits.complete h (All-contains (IsHit facts q) more.items h more.each there) in
+        let sub : (h : Hit) → Contains more.items h → Contains (map hit_of keys) h =
+        λ h there. are_hits.complete h (All-contains (IsHit facts q) more.items h more.each there) in
         let within = no_longer IsBefore not_before_itself more.items (map hit_of keys) more.apart sub in
         omega (arith, within, length-map keys hit_of, few, more.longer)

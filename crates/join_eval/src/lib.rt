@@ -5,8 +5,6 @@ mod candidates;
 mod hits;
 mod refusal;
 mod search;
-#[cfg(test)]
-mod tests;
 
 pub use hits::matches;
 pub use refusal::JoinRefusal;

@@ -1,5 +1,6 @@
 -- A query is found by its code.
-use Rattle.std.proofs.Common.{◌≡◌, ◌≢◌, ℕ, ◌<◌, zero, suc, ◌⊎◌, inl, inr, Bool, true, false, ◌||◌, List, [], ◌∷◌, length, get_or, refl, ap, sym, ◌∙◌, arith, All}
+use Rattle.std.proofs.Common.{◌≡◌, ◌≢◌, ℕ, ◌<◌, zero, suc, ◌⊎◌, inl, inr, Bool, true, false, ◌||◌, List, [], ◌∷◌, length, get_or, refl, ap, sym, ◌∙◌, arith}
+use Rattle.std.proofs.Common.{All}
 use Rattle.std.specs.List.{list_any}
 use Rattle.std.specs.Str.{bytes_eq}
 use Rattle.std.proofs.lemmas.Slice.Eq.{bytes_eq-Decides}
@@ -36,8 +37,10 @@ atom_code-injective (atom.Concept a s) (atom.Concept b t) xs ys e =
     let second = heads a b (term_code s xs) (term_code t ys) first.1 in
     let rest = term_code-injective s t xs ys second.1 in
     (cc (second.0, rest.0), rest.1)
-atom_code-injective (atom.Concept a s) (atom.Link q t t2) xs ys e = absurd (omega (arith, (heads 0 1 (a ∷ term_code s xs) (q ∷ term_code t (term_code t2 ys)) e).0))
-atom_code-injective (atom.Link p s s2) (atom.Concept b t) xs ys e = absurd (omega (arith, (heads 1 0 (p ∷ term_code s (term_code s2 xs)) (b ∷ term_code t ys) e).0))
+atom_code-injective (atom.Concept a s) (atom.Link q t t2) xs ys e =
+    absurd (omega (arith, (heads 0 1 (a ∷ term_code s xs) (q ∷ term_code t (term_code t2 ys)) e).0))
+atom_code-injective (atom.Link p s s2) (atom.Concept b t) xs ys e =
+    absurd (omega (arith, (heads 1 0 (p ∷ term_code s (term_code s2 xs)) (b ∷ term_code t ys) e).0))
 atom_code-injective (atom.Link p s s2) (atom.Link q t t2) xs ys e =
     let first = heads 1 1 (p ∷ term_code s (term_code s2 xs)) (q ∷ term_code t (term_code t2 ys)) e in
     let second = heads p q (term_code s (term_code s2 xs)) (term_code t (term_code t2 ys)) first.1 in
@@ -78,7 +81,8 @@ unfolding code_of
 code_of-injective q r e =
     let head = head_code-injective q.head r.head (body_code q.body) (body_code r.body) e in
     let body = body_code-injective q.body r.body head.1 in
-    ap (λ (h : List Term). let p : Query = record { head = h; body = q.body } in p) head.0 ∙ ap (λ (b : List QAtom). let p : Query = record { head = r.head; body = b } in p) body
+    ap (λ (h : List Term). let p : Query = record { head = h; body = q.body } in p) head.0
+    ∙ ap (λ (b : List QAtom). let p : Query = record { head = r.head; body = b } in p) body
 
 known_step : (b rest : Bool) → (b || rest) ≡ true → (b ≡ true) ⊎ (rest ≡ true)
 known_step true rest h = inl refl

@@ -1,5 +1,6 @@
 -- One move after the other while a closure is searched.
-use Rattle.std.proofs.Common.{◌≡◌, ◌≢◌, ℕ, ◌+◌, ◌^◌, ◌<◌, ◌≤◌, ◌⊎◌, inl, inr, Option, Some, List, [], ◌∷◌, ◌++◌, length, get_or, refl, ap, sym, ◌∙◌, subst, arith, Contains, All}
+use Rattle.std.proofs.Common.{◌≡◌, ◌≢◌, ℕ, ◌+◌, ◌^◌, ◌<◌, ◌≤◌, ◌⊎◌, inl, inr, Option, Some, List, [], ◌∷◌, ◌++◌, length, get_or, refl, ap, sym, ◌∙◌, subst}
+use Rattle.std.proofs.Common.{arith, Contains, All}
 use Rattle.std.specs.List.{slice_get, Any}
 use Rattle.std.proofs.lemmas.Bool.{cases_lt}
 use Rattle.std.proofs.lemmas.List.{length_push}
@@ -90,7 +91,8 @@ abbrev pub made_by : ℕ → Move × Query → Member
 made_by from x = record { query = x.1; step = Some (from, x.0) }
 
 -- a move whose result is new was tried, and its result goes last
-pub new_tried : (axioms : List Axiom) (from : ℕ) (q : Query) (moves : List (Move × Query)) (n : ℕ) (members : List Member) (x : Move × Query) → n < length moves → x ≡ get_or moves n x
+pub new_tried : (axioms : List Axiom) (from : ℕ) (q : Query) (moves : List (Move × Query)) (n : ℕ) (members : List Member) (x : Move × Query)
+    → n < length moves → x ≡ get_or moves n x
     → AreSuccessors axioms q moves → AreTried from moves n members → AreTried from moves (n + 1) (members ++ made_by from x ∷ [])
 new_tried axioms from q moves n members x inside is all so = record {
   known = λ j d h lt. by_place j d h lt (cases_lt j n);
@@ -108,7 +110,11 @@ new_tried axioms from q moves n members x inside is all so = record {
     own m a e f = let steps = ap (λ (y : Member). y.step) e ∙ f in cc
 
     later : (j : ℕ) (d : Move × Query) → n < j → j < length moves → IsEarlier (from, x.0) (from, (get_or moves j d).0)
-    later j d h lt = inr (refl, subst (λ (s : Move). IsBefore s (get_or moves j d).0) (ap (λ (y : Move × Query). y.0) (sym (is ∙ any_default moves n x d inside))) (all.ascending n j d h lt))
+    later j d h lt = inr (
+      refl,
+      subst (λ (s : Move). IsBefore s (get_or moves j d).0)
+          (ap (λ (y : Move × Query). y.0) (sym (is ∙ any_default moves n x d inside))) (all.ascending n j d h lt),
+    )
 
     here : (j : ℕ) (d : Move × Query) → j ≡ n → IsQueryOf (members ++ made_by from x ∷ []) ((get_or moves j d).1)
     here j d e = Any-last (λ m. m.query ≡ (get_or moves j d).1) members (made_by from x)
@@ -126,7 +132,8 @@ steps_same m n a b e f g = let steps = ap (λ (y : Member). y.step) e in cc
 -- a new result of a move on the member at place `from` goes last
 pub new_found : (axioms : List Axiom) (limit from : ℕ) (p : Member) (moves : List (Move × Query)) (n : ℕ) (members : List Member) (x : Move × Query)
     → n < length moves → x ≡ get_or moves n x → slice_get members from ≡ Some p → AreSuccessors axioms p.query moves → AreTried from moves n members
-    → All (λ m. m.query ≢ x.1) members → length members < limit → limit < 2 ^ 32 → AreFound axioms limit from members → AreFound axioms limit from (members ++ made_by from x ∷ [])
+    → All (λ m. m.query ≢ x.1) members → length members < limit → limit < 2 ^ 32 → AreFound axioms limit from members
+    → AreFound axioms limit from (members ++ made_by from x ∷ [])
 new_found axioms limit from p moves n members x inside is at all tried new room fits so = record {
   derivation = IsDerivation-push members (made_by from x) so.derivation new (from, x.0, refl, from_inside) (omega arith);
   steps = λ i k m s at_i e. elim (slice_get-push members (made_by from x) i m at_i) [
@@ -146,12 +153,14 @@ new_found axioms limit from p moves n members x inside is at all tried new room 
     from_inside = slice_get_within members from p at
 
     p_short : length p.query.body < 2 ^ 31
-    p_short = subst (λ (m : Member). length m.query.body < 2 ^ 31) (get_or_from_slice_get members from p p at) (so.short from p (slice_get_within members from p at))
+    p_short = subst (λ (m : Member). length m.query.body < 2 ^ 31) (get_or_from_slice_get members from p p at)
+        (so.short from p (slice_get_within members from p at))
 
     moved : IsMove axioms p.query x.0 x.1
     moved = subst (λ (y : Move × Query). IsMove axioms p.query y.0 y.1) (sym is) (all.sound n x inside)
 
-    by_new : (i k : ℕ) (m : Member) (s : Move) → made_by from x ≡ m → m.step ≡ Some (k, s) → (w : Member) × (slice_get (members ++ made_by from x ∷ []) k ≡ Some w) × IsMove axioms w.query s m.query
+    by_new : (i k : ℕ) (m : Member) (s : Move) → made_by from x ≡ m → m.step ≡ Some (k, s) → (w : Member)
+        × (slice_get (members ++ made_by from x ∷ []) k ≡ Some w) × IsMove axioms w.query s m.query
     by_new i k m s e f =
         let steps = steps_same (made_by from x) m (from, x.0) (k, s) e refl f in
         let place : from ≡ k = ap (λ (b : ℕ × Move). b.0) steps in
@@ -162,7 +171,8 @@ new_found axioms limit from p moves n members x inside is at all tried new room 
           subst (λ (r : Query). IsMove axioms p.query s r) query (subst (λ (t : Move). IsMove axioms p.query t x.1) step moved),
         )
 
-    ascending : (i j : ℕ) (m w : Member) (a b : ℕ × Move) → i < j → slice_get (members ++ made_by from x ∷ []) i ≡ Some m → slice_get (members ++ made_by from x ∷ []) j ≡ Some w
+    ascending : (i j : ℕ) (m w : Member) (a b : ℕ × Move) → i < j → slice_get (members ++ made_by from x ∷ []) i ≡ Some m
+        → slice_get (members ++ made_by from x ∷ []) j ≡ Some w
         → m.step ≡ Some a → w.step ≡ Some b → IsEarlier a b
     ascending i j m w a b less at_i at_j e f =
         elim (slice_get-push members (made_by from x) i m at_i) [
@@ -184,7 +194,9 @@ new_found axioms limit from p moves n members x inside is at all tried new room 
     no_earlier_move t j lt e before (inl less) other =
         not_a_member (subst (λ (y : Move × Query). IsQueryOf members y.1) e (tried.known j (t, x.1) less lt))
     no_earlier_move t j lt e before (inr more) (inl after) =
-        let first : IsBefore x.0 t = subst (λ (y : Move × Query). IsBefore x.0 y.0) e (subst (λ (y : Move × Query). IsBefore y.0 (get_or moves j (t, x.1)).0) (sym (is ∙ any_default moves n x (t, x.1) inside)) (all.ascending n j (t, x.1) after lt)) in
+        let first : IsBefore x.0 t = subst (λ (y : Move × Query). IsBefore x.0 y.0) e
+        (subst (λ (y : Move × Query). IsBefore y.0 (get_or moves j (t, x.1)).0) (sym (is ∙ any_default moves n x (t, x.1) inside))
+        (all.ascending n j (t, x.1) after lt)) in
         not_both x.0 t first before
     no_earlier_move t j lt e before (inr more) (inr back) =
         let place : j ≡ n = omega arith in
@@ -208,7 +220,8 @@ new_found axioms limit from p moves n members x inside is at all tried new room 
     source_place l t a (inr same) = omega (arith, same.0)
 
     in_members : (l : ℕ) (w : Member) → l ≤ from → slice_get (members ++ made_by from x ∷ []) l ≡ Some w → slice_get members l ≡ Some w
-    in_members l w le at_l = elim (slice_get-push members (made_by from x) l w at_l) [ inl old ↦ old | inr last ↦ absurd (omega (arith, last.0, slice_get_within members from p at)) ]
+    in_members l w le at_l = elim (slice_get-push members (made_by from x) l w at_l)
+        [ inl old ↦ old | inr last ↦ absurd (omega (arith, last.0, slice_get_within members from p at)) ]
 
     earliest : (i l : ℕ) (m w : Member) (a : ℕ × Move) (t : Move) → slice_get (members ++ made_by from x ∷ []) i ≡ Some m → m.step ≡ Some a → IsEarlier (l, t) a
         → slice_get (members ++ made_by from x ∷ []) l ≡ Some w → ¬ IsMove axioms w.query t m.query

@@ -43,7 +43,8 @@ length-sorted [] = refl
 length-sorted (x ∷ xs) = length-insert x (sorted xs) ∙ ap suc (length-sorted xs)
 
 round_shorter : (q : Query) → length (round_of q).body ≤ length q.body
-round_shorter q = rw (length-map (distinct_atoms q.body) (map_atom (unbound_to_any (record { head = q.head; body = distinct_atoms q.body })))) (length-distinct q.body)
+round_shorter q = rw (length-map (distinct_atoms q.body) (map_atom (unbound_to_any (record { head = q.head; body = distinct_atoms q.body }))))
+    (length-distinct q.body)
 
 simplified_shorter : (n : ℕ) (q : Query) → length (simplified n q).body ≤ length q.body
 simplified_shorter zero q = omega arith

@@ -1,5 +1,6 @@
 -- One member after the other while a closure is searched, and what the end of the search tells.
-use Rattle.std.proofs.Common.{◌≡◌, ◌≢◌, ℕ, ◌+◌, ◌^◌, ◌<◌, ◌≤◌, zero, suc, ◌⊎◌, inl, inr, Some, None, List, [], ◌∷◌, ◌++◌, length, get_or, refl, ap, sym, ◌∙◌, subst, arith, Contains, All}
+use Rattle.std.proofs.Common.{◌≡◌, ◌≢◌, ℕ, ◌+◌, ◌^◌, ◌<◌, ◌≤◌, zero, suc, ◌⊎◌, inl, inr, Some, None, List, [], ◌∷◌, ◌++◌, length, get_or, refl, ap, sym, ◌∙◌}
+use Rattle.std.proofs.Common.{subst, arith, Contains, All}
 use Rattle.std.specs.List.{slice_get}
 use Rattle.std.proofs.lemmas.Bool.{cases_lt}
 use Rattle.std.proofs.lemmas.List.{length_push, length-map, get_or-map}
@@ -37,7 +38,8 @@ pub record IsAmid (axioms : List Axiom) (limit from : ℕ) (moves : List (Move �
   pub tried : AreTried from moves n members
 
 -- the turn begins with no move tried
-pub turn_begins : (axioms : List Axiom) (limit from : ℕ) (p : Member) (moves : List (Move × Query)) (members : List Member) → IsTurn axioms limit from p moves members → IsAmid axioms limit from moves 0 members
+pub turn_begins : (axioms : List Axiom) (limit from : ℕ) (p : Member) (moves : List (Move × Query)) (members : List Member)
+    → IsTurn axioms limit from p moves members → IsAmid axioms limit from moves 0 members
 turn_begins axioms limit from p moves members turn = record { found = turn.found; tried = none_tried from moves members turn.behind }
 
 -- noting a member keeps the others
@@ -58,7 +60,8 @@ turn_goes_on axioms limit from p moves n old new x inside is at all fits (inr (f
     })
 
 -- all moves were tried: the turn is over
-pub turn_ends : (axioms : List Axiom) (limit from : ℕ) (p : Member) (moves : List (Move × Query)) (n : ℕ) (members : List Member) → length moves ≤ n → slice_get members from ≡ Some p
+pub turn_ends : (axioms : List Axiom) (limit from : ℕ) (p : Member) (moves : List (Move × Query)) (n : ℕ) (members : List Member) → length moves ≤ n
+    → slice_get members from ≡ Some p
     → AreSuccessors axioms p.query moves → IsAmid axioms limit from moves n members → AreFound axioms limit (from + 1) members
 turn_ends axioms limit from p moves n members end at all so = record {
   derivation = so.found.derivation;
@@ -72,7 +75,8 @@ turn_ends axioms limit from p moves n members end at all so = record {
     result : (r : Query) (s : Move) → Contains moves (s, r) → IsQueryOf members r
     result r s (j, lt, e) = subst (λ (y : Move × Query). IsQueryOf members y.1) e (so.tried.known j (s, r) (omega arith) lt)
 
-    by_place : (k : ℕ) (m : Member) (s : Move) (r : Query) → k < from + 1 → slice_get members k ≡ Some m → IsMove axioms m.query s r → (k < from) ⊎ (from ≤ k) → IsQueryOf members r
+    by_place : (k : ℕ) (m : Member) (s : Move) (r : Query) → k < from + 1 → slice_get members k ≡ Some m → IsMove axioms m.query s r → (k < from) ⊎ (from ≤ k)
+        → IsQueryOf members r
     by_place k m s r less at_k is (inl before) = so.found.closed k m s r before at_k is
     by_place k m s r less at_k is (inr more) =
         let place : k ≡ from = omega arith in
@@ -80,15 +84,24 @@ turn_ends axioms limit from p moves n members end at all so = record {
         let same : m ≡ p = cc (at_k, here, at) in
         result r s (all.complete s r (subst (λ (y : Member). IsMove axioms y.query s r) same is))
 
-pub turn_behind : (axioms : List Axiom) (limit from : ℕ) (moves : List (Move × Query)) (n : ℕ) (members : List Member) → IsAmid axioms limit from moves n members → AreBehind (from + 1) members
+pub turn_behind : (axioms : List Axiom) (limit from : ℕ) (moves : List (Move × Query)) (n : ℕ) (members : List Member)
+    → IsAmid axioms limit from moves n members → AreBehind (from + 1) members
 turn_behind axioms limit from moves n members so = λ i m a at e. let le = so.tried.source i m a at e in omega arith
 
 -- ---- the beginning
 
 -- the first member alone
-pub first_found : (axioms : List Axiom) (limit : ℕ) (q : Query) → 0 < limit → length q.body < 2 ^ 31 → AreFound axioms limit 0 (record { query = normal q; step = None } ∷ [])
+pub first_found : (axioms : List Axiom) (limit : ℕ) (q : Query) → 0 < limit → length q.body < 2 ^ 31
+    → AreFound axioms limit 0 (record { query = normal q; step = None } ∷ [])
 first_found axioms limit q h fits = record {
-  derivation = record { some = omega arith; few = lone; distinct = λ i j d less lt. absurd (omega arith); first = λ m at. own m at; later = λ i m after at. absurd (nothing i m after at) };
+  derivation = record {
+    some = omega arith;
+    few = lone;
+    distinct = λ i j d less lt. absurd (omega arith);
+    first = λ m at. own m at;
+    later =
+        λ i m after at. absurd (nothing i m after at);
+  };
   steps = λ i k m s at e. absurd (no_step i m (k, s) at e);
   closed = λ k m s r less. absurd (omega arith);
   order = record { ascending = λ i j m n a b less at_i at_j e f. absurd (no_step i m a at_i e); earliest = λ i l m p a t at e. absurd (no_step i m a at e) };
@@ -130,12 +143,18 @@ first_behind q = λ i m a at e. absurd (none i m a at e)
 abbrev pub BeginsWith : Query → List Member → Type 0
 BeginsWith q members = (m : Member) × (slice_get members 0 ≡ Some m) × (m.query ≡ normal q)
 
-pub derived_now : (axioms : List Axiom) (limit from : ℕ) (q : Query) (members : List Member) → BeginsWith q members → AreFound axioms limit from members → AreDerived axioms q members
+pub derived_now : (axioms : List Axiom) (limit from : ℕ) (q : Query) (members : List Member) → BeginsWith q members → AreFound axioms limit from members
+    → AreDerived axioms q members
 derived_now axioms limit from q members first so = record { first = first; steps = so.steps }
 
 -- every member had its turn
-pub closes_now : (axioms : List Axiom) (limit from : ℕ) (q : Query) (members : List Member) → BeginsWith q members → length members ≤ from → AreFound axioms limit from members → Closes axioms q members
-closes_now axioms limit from q members first end so = record { derived = derived_now axioms limit from q members first so; closed = λ m s r some is. by_place m s r some is }
+pub closes_now : (axioms : List Axiom) (limit from : ℕ) (q : Query) (members : List Member) → BeginsWith q members → length members ≤ from
+    → AreFound axioms limit from members → Closes axioms q members
+closes_now axioms limit from q members first end so = record {
+  derived = derived_now axioms limit from q members first so;
+  closed =
+      λ m s r some is. by_place m s r some is;
+}
   where
     by_place : (m : Member) (s : Move) (r : Query) → Contains members m → IsMove axioms m.query s r → IsQueryOf members r
     by_place m s r (k, lt, e) is = so.closed k m s r (omega arith) (slice_get-get_or members k m lt ∙ ap Some e) is
@@ -147,18 +166,21 @@ tells law axioms q members is = λ facts tuple. (to facts tuple, from facts tupl
     member_of : (r : Query) → IsQueryOf members r → (m : Member) × Contains members m × (m.query ≡ r)
     member_of r (k, m, lt, at, e) = (m, (k, lt, at), e)
 
-    to : (facts : List Fact) (tuple : List ℕ) → Entails axioms (Contains facts) q tuple → (m : Member) × (image : List Fact) × Contains members m × Match m.query (Contains facts) tuple image
+    to : (facts : List Fact) (tuple : List ℕ) → Entails axioms (Contains facts) q tuple → (m : Member) × (image : List Fact) × Contains members m
+        × Match m.query (Contains facts) tuple image
     to facts tuple h =
         let some = (law axioms q (queries_of members) is facts tuple).0 h in
         let at = member_of some.0 (query_from_Contains members some.0 some.2) in
         (at.0, some.1, at.1, subst (λ (r : Query). Match r (Contains facts) tuple some.1) (sym at.2) some.3)
 
-    from : (facts : List Fact) (tuple : List ℕ) → ((m : Member) × (image : List Fact) × Contains members m × Match m.query (Contains facts) tuple image) → Entails axioms (Contains facts) q tuple
+    from : (facts : List Fact) (tuple : List ℕ) → ((m : Member) × (image : List Fact) × Contains members m × Match m.query (Contains facts) tuple image)
+        → Entails axioms (Contains facts) q tuple
     from facts tuple (m, image, (k, lt, e), match) =
         (law axioms q (queries_of members) is facts tuple).1 (m.query, image, Contains-from_query members m.query (k, m, lt, e, refl), match)
 
 -- one more result than there is room for
-pub more_than : (axioms : List Axiom) (limit from : ℕ) (q : Query) (p : Member) (members : List Member) (s : Move) (r : Query) → AreDerived axioms q members → IsDerivation members
+pub more_than : (axioms : List Axiom) (limit from : ℕ) (q : Query) (p : Member) (members : List Member) (s : Move) (r : Query) → AreDerived axioms q members
+    → IsDerivation members
     → slice_get members from ≡ Some p → IsMove axioms p.query s r → All (λ m. m.query ≢ r) members → limit ≤ length members → HasMoreThan axioms q limit
 more_than axioms limit from q p members s r derived d at is new full = record {
   items = queries_of members ++ r ∷ [];
@@ -187,7 +209,8 @@ more_than axioms limit from q p members s r derived d at is new full = record {
     inside : (k : ℕ) (e : Query) → k < length (queries_of members) → IsInClosure axioms q (get_or (queries_of members) k e)
     inside k e lt =
         let inside_k : k < length members = omega (arith, lengths) in
-        subst (IsInClosure axioms q) (sym (query_at k e inside_k)) (derived-in-closure axioms q members d derived (get_or members k p) (Contains-get_or members k p inside_k))
+        subst (IsInClosure axioms q) (sym (query_at k e inside_k)) (derived-in-closure axioms q members d derived (get_or members k p)
+        (Contains-get_or members k p inside_k))
 
     last : IsInClosure axioms q r
     last =

@@ -5,8 +5,6 @@ mod breadth_first;
 mod code;
 mod member_codes;
 mod refusal;
-#[cfg(test)]
-mod tests;
 
 pub use breadth_first::close;
 pub use refusal::CloseRefusal;

@@ -19,18 +19,22 @@ IsKnown bindings t known = IfSome known (λ c. (v : ℕ → ℕ) (d : ℕ) → A
 
 -- the list has the number of each fact at the place
 abbrev pub HasPlace : List Fact → Side → ℕ → Option ℕ → List KeyedFact → Type 0
-HasPlace facts side pred known entries = (n : ℕ) (f : Fact) (ind : ℕ) → slice_get facts n ≡ Some f → StandsAt side f pred ind → IfSome known (λ c. ind ≡ c) → HasNumber entries n
+HasPlace facts side pred known entries = (n : ℕ) (f : Fact) (ind : ℕ) → slice_get facts n ≡ Some f → StandsAt side f pred ind → IfSome known (λ c. ind ≡ c)
+    → HasNumber entries n
 
-admits : (bindings : List Binding) (t : Term) (known : Option ℕ) (v : ℕ → ℕ) (d : ℕ) → IsKnown bindings t known → Agrees bindings v → TermIs v t d → IfSome known (λ c. d ≡ c)
+admits : (bindings : List Binding) (t : Term) (known : Option ℕ) (v : ℕ → ℕ) (d : ℕ) → IsKnown bindings t known → Agrees bindings v → TermIs v t d
+    → IfSome known (λ c. d ≡ c)
 admits bindings t None v d is agrees h = tt
 admits bindings t (Some c) v d is agrees h = (is v d agrees).0 h
 
 module _ (facts : List Fact) (bindings : List Binding) (entries : List KeyedFact) (p : ℕ) (known : Option ℕ) where
-  pub by_member : (t : Term) → IsKnown bindings t known → HasPlace facts side.Member p known entries → HasEach facts bindings (atom.Concept p t) (HasNumber entries)
+  pub by_member : (t : Term) → IsKnown bindings t known → HasPlace facts side.Member p known entries
+      → HasEach facts bindings (atom.Concept p t) (HasNumber entries)
   by_member t is has v n (fact.Concept q c) agrees at h = has n (fact.Concept q c) c at (h.0, refl) (admits bindings t known v c is agrees h.1)
   by_member t is has v n (fact.Link q c d) agrees at h = absurd h
 
-  pub by_from : (s t : Term) → IsKnown bindings s known → HasPlace facts side.From p known entries → HasEach facts bindings (atom.Link p s t) (HasNumber entries)
+  pub by_from : (s t : Term) → IsKnown bindings s known → HasPlace facts side.From p known entries
+      → HasEach facts bindings (atom.Link p s t) (HasNumber entries)
   by_from s t is has v n (fact.Concept q c) agrees at h = absurd h
   by_from s t is has v n (fact.Link q c d) agrees at h = has n (fact.Link q c d) c at (h.0, refl) (admits bindings s known v c is agrees h.1)
 

@@ -1,5 +1,6 @@
 -- The search within an image: what the loop over its numbers has excluded, and when it ends.
-use Rattle.std.proofs.Common.{◌≡◌, ℕ, ◌+◌, ◌<◌, ◌≤◌, true, false, List, [], ◌∷◌, ◌++◌, length, get_or, slice_get, Some, All, Contains, ◌⊎◌, inl, inr, refl, sym, ◌∙◌, subst, arith}
+use Rattle.std.proofs.Common.{◌≡◌, ℕ, ◌+◌, ◌<◌, ◌≤◌, true, false, List, [], ◌∷◌, ◌++◌, length, get_or, slice_get, Some, All, Contains, ◌⊎◌, inl, inr, refl}
+use Rattle.std.proofs.Common.{sym, ◌∙◌, subst, arith}
 use Rattle.std.proofs.lemmas.Bool.{cases_lt}
 use Rattle.std.proofs.lemmas.List.{append-nil, get_or_default}
 use Rattle.std.proofs.lemmas.List.Elements.{All-push, All-contains, Contains-get_or, Contains-append_right}
@@ -54,17 +55,22 @@ module _ (facts : List Fact) (image : List ℕ) where
   -- ---- the next atom becomes one fact
 
   module _ (a : QAtom) (more : List QAtom) (n : ℕ) (f : Fact) (old new : List Binding) (path longer : List ℕ) (at : slice_get facts n ≡ Some f) where
-    pub by_from : Binds (λ v. AtomIs v a f) (λ l. StandsIn l a) old new true → longer ≡ path ++ n ∷ [] → HasEnding facts image more new longer → HasEndingBy facts image a more n old path
-    by_from binds pushed h = step_back facts [] a more n f old new path at binds (bare image) (subst (λ (xs : List ℕ). HasEnding facts image more new xs) pushed h)
+    pub by_from : Binds (λ v. AtomIs v a f) (λ l. StandsIn l a) old new true → longer ≡ path ++ n ∷ [] → HasEnding facts image more new longer
+        → HasEndingBy facts image a more n old path
+    by_from binds pushed h = step_back facts [] a more n f old new path at binds (bare image)
+        (subst (λ (xs : List ℕ). HasEnding facts image more new xs) pushed h)
 
-    pub by_to : Binds (λ v. AtomIs v a f) (λ l. StandsIn l a) old new true → longer ≡ path ++ n ∷ [] → HasEndingBy facts image a more n old path → HasEnding facts image more new longer
-    by_to binds pushed h = subst (λ (xs : List ℕ). HasEnding facts image more new xs) (sym pushed) (step_on facts [] a more n f old new path at binds (bare image) h)
+    pub by_to : Binds (λ v. AtomIs v a f) (λ l. StandsIn l a) old new true → longer ≡ path ++ n ∷ [] → HasEndingBy facts image a more n old path
+        → HasEnding facts image more new longer
+    by_to binds pushed h = subst (λ (xs : List ℕ). HasEnding facts image more new xs) (sym pushed)
+        (step_on facts [] a more n f old new path at binds (bare image) h)
 
     pub by_never : Binds (λ v. AtomIs v a f) (λ l. StandsIn l a) old new false → HasEndingBy facts image a more n old path → ⊥
     by_never binds h = no_step facts [] a more n f old new path at binds (bare image) h
 
   -- the search goes on where the atom became a fact of the image
-  pub can_on : (old new : Walk) (n : ℕ) → CanEnd facts image old → Contains image n → AreConsistent new.bindings.items → new.path.items ≡ old.path.items ++ n ∷ [] → CanEnd facts image new
+  pub can_on : (old new : Walk) (n : ℕ) → CanEnd facts image old → Contains image n → AreConsistent new.bindings.items
+      → new.path.items ≡ old.path.items ++ n ∷ [] → CanEnd facts image new
   can_on old new n can there consistent pushed = record {
     ascending = can.ascending;
     named = can.named;
@@ -82,12 +88,14 @@ module _ (facts : List Fact) (image : List ℕ) where
     inside = subst (λ (xs : List ℕ). All (Contains image) xs) (sym same.path) can.inside;
   }
 
-  back : (a : QAtom) (more : List QAtom) (n : ℕ) (old now : Walk) → IsSameWalk old now → HasEndingBy facts image a more n now.bindings.items now.path.items → HasEndingBy facts image a more n old.bindings.items old.path.items
+  back : (a : QAtom) (more : List QAtom) (n : ℕ) (old now : Walk) → IsSameWalk old now → HasEndingBy facts image a more n now.bindings.items now.path.items
+      → HasEndingBy facts image a more n old.bindings.items old.path.items
   back a more n old now same h =
       subst (λ (xs : List Binding). HasEndingBy facts image a more n xs old.path.items) same.bindings
       (subst (λ (xs : List ℕ). HasEndingBy facts image a more n now.bindings.items xs) same.path h)
 
-  on : (a : QAtom) (more : List QAtom) (n : ℕ) (old now : Walk) → IsSameWalk old now → HasEndingBy facts image a more n old.bindings.items old.path.items → HasEndingBy facts image a more n now.bindings.items now.path.items
+  on : (a : QAtom) (more : List QAtom) (n : ℕ) (old now : Walk) → IsSameWalk old now → HasEndingBy facts image a more n old.bindings.items old.path.items
+      → HasEndingBy facts image a more n now.bindings.items now.path.items
   on a more n old now same h =
       subst (λ (xs : List Binding). HasEndingBy facts image a more n xs now.path.items) (sym same.bindings)
       (subst (λ (xs : List ℕ). HasEndingBy facts image a more n old.bindings.items xs) (sym same.path) h)
@@ -102,12 +110,14 @@ module _ (facts : List Fact) (image : List ℕ) where
     none_yet = record { same = record { bindings = refl; path = refl }; none = λ k lt. absurd (omega arith) }
 
     module _ (split : rest ≡ a ∷ more) (i : ℕ) (now : Walk) (so : IsNoneOfFirst a more i old now) where
-      pub found_here : HasEndingBy facts image a more (get_or image i 0) now.bindings.items now.path.items → HasEnding facts image rest old.bindings.items old.path.items
+      pub found_here : HasEndingBy facts image a more (get_or image i 0) now.bindings.items now.path.items
+          → HasEnding facts image rest old.bindings.items old.path.items
       found_here h =
           subst (λ (xs : List QAtom). HasEnding facts image xs old.bindings.items old.path.items) (sym split)
           (by_first facts [] a more old.bindings.items old.path.items (bare image) (get_or image i 0) (back a more (get_or image i 0) old now so.same h))
 
-      pub none_more : (new : Walk) → IsSameWalk now new → (HasEndingBy facts image a more (get_or image i 0) now.bindings.items now.path.items → ⊥) → IsNoneOfFirst a more (i + 1) old new
+      pub none_more : (new : Walk) → IsSameWalk now new → (HasEndingBy facts image a more (get_or image i 0) now.bindings.items now.path.items → ⊥)
+          → IsNoneOfFirst a more (i + 1) old new
       none_more new same never = record {
         same = record { bindings = same.bindings ∙ so.same.bindings; path = same.path ∙ so.same.path };
         none = λ k lt h. by k (cases_lt k i) lt h;
@@ -117,11 +127,13 @@ module _ (facts : List Fact) (image : List ℕ) where
           by k (inl before) lt h = so.none k before h
           by k (inr le) lt h =
               let here : k ≡ i = omega (arith, le, lt) in
-              never (on a more (get_or image i 0) old now so.same (subst (λ (j : ℕ). HasEndingBy facts image a more (get_or image j 0) old.bindings.items old.path.items) here h))
+              never (on a more (get_or image i 0) old now so.same (subst (λ (j : ℕ). HasEndingBy facts image a more (get_or image j 0) old.bindings.items
+              old.path.items) here h))
 
       pub none_at_all : length image ≤ i → HasEnding facts image rest old.bindings.items old.path.items → ⊥
       none_at_all past h =
-          let first = first_of facts [] a more old.bindings.items old.path.items (bare image) (subst (λ (xs : List QAtom). HasEnding facts image xs old.bindings.items old.path.items) split h) in
+          let first = first_of facts [] a more old.bindings.items old.path.items (bare image)
+          (subst (λ (xs : List QAtom). HasEnding facts image xs old.bindings.items old.path.items) split h) in
           let n = first.0 in
           let ending = first.1 in
           let there : Contains image n = (ending.1.image.same n).1 (Contains-append_right old.path.items (n ∷ ending.0) n (Contains-head n ending.0)) in

@@ -33,7 +33,8 @@ module _ (facts : List Fact) (q : Query) (tuple image : List ℕ) where
         let same = AllZip-length (NumberFits facts row.1.valuation) q.body row.0 row.1.fits in
         omega (arith, within, same)
 
-    module _ (head : List Term) (body : List QAtom) (old new : List Binding) (path : List ℕ) (head_is : head ≡ q.head) (body_is : body ≡ q.body) (none : old ≡ []) (no_path : path ≡ []) where
+    module _ (head : List Term) (body : List QAtom) (old new : List Binding) (path : List ℕ) (head_is : head ≡ q.head) (body_is : body ≡ q.body)
+        (none : old ≡ []) (no_path : path ≡ []) where
       -- a head that can't be the tuple has no match
       pub no_head : Binds (λ v. HeadIs v head tuple) NoVariable old new false → HasImage facts q tuple image → ⊥
       no_head binds h =
@@ -43,7 +44,8 @@ module _ (facts : List Fact) (q : Query) (tuple image : List ℕ) where
 
       pub ending_is_image : Binds (λ v. HeadIs v head tuple) NoVariable old new true → HasEnding facts image body new path → HasImage facts q tuple image
       ending_is_image binds h =
-          let end : HasEnding facts image q.body new [] = subst (λ (xs : List ℕ). HasEnding facts image q.body new xs) no_path (subst (λ (xs : List QAtom). HasEnding facts image xs new path) body_is h) in
+          let end : HasEnding facts image q.body new [] = subst (λ (xs : List ℕ). HasEnding facts image q.body new xs) no_path
+          (subst (λ (xs : List QAtom). HasEnding facts image xs new path) body_is h) in
           let v = end.1.valuation in
           let tuple_is : HeadIs v q.head tuple = subst (λ (xs : List Term). HeadIs v xs tuple) head_is ((binds.exact refl v).0 end.1.agrees).1 in
           hit_of_row facts distinct q (record { tuple = tuple; image = image })
@@ -54,5 +56,16 @@ module _ (facts : List Fact) (q : Query) (tuple image : List ℕ) where
           let row = row_of_hit facts distinct q (record { tuple = tuple; image = image }) h in
           let v = row.1.valuation in
           let agrees = (binds.exact refl v).1 (nothing_agrees old none v, subst (λ (xs : List Term). HeadIs v xs tuple) (sym head_is) row.1.tuple) in
-          let end : HasEnding facts image q.body new [] = (row.0, record { valuation = v; agrees = agrees; fits = row.1.fits; tuple = tt; image = row.1.image }) in
-          subst (λ (xs : List QAtom). HasEnding facts image xs new path) (sym body_is) (subst (λ (xs : List ℕ). HasEnding facts image q.body new xs) (sym no_path) end)
+          let end : HasEnding facts image q.body new [] = (
+            row.0,
+            record {
+              valuation = v;
+              agrees = agrees;
+              fits = row.1.fits;
+              tuple = tt;
+              image =
+                  row.1.image;
+            },
+          ) in
+          subst (λ (xs : List QAtom). HasEnding facts image xs new path) (sym body_is)
+          (subst (λ (xs : List ℕ). HasEnding facts image q.body new xs) (sym no_path) end)

@@ -24,7 +24,8 @@ module _ (facts : List Fact) (members : List Query) where
     complete = λ k q row lt. absurd (omega arith);
   }
 
-  pub rows_more : (i : ℕ) (q : Query) (old new : List Row) → i < length members → q ≡ get_or members i q → AreRowsOfFirst facts members i old → AddsOnly (IsRowOf facts q) old new → HasAll (IsRowOf facts q) new → AreRowsOfFirst facts members (i + 1) new
+  pub rows_more : (i : ℕ) (q : Query) (old new : List Row) → i < length members → q ≡ get_or members i q → AreRowsOfFirst facts members i old
+      → AddsOnly (IsRowOf facts q) old new → HasAll (IsRowOf facts q) new → AreRowsOfFirst facts members (i + 1) new
   rows_more i q old new within here are adds all = record {
     right = λ row there. by row (adds.right row there);
     complete = λ k p row lt at is. on k p row lt at is (cases_lt k i);
@@ -44,7 +45,8 @@ module _ (facts : List Fact) (members : List Query) where
       on k p row lt at is (inr le) = all row (subst (λ (r : Query). IsRowOf facts r row) (same k p (omega (arith, le, lt)) at) is)
 
   -- the rows of all queries, in order, are the hits
-  pub rows_all : (i : ℕ) (rows : List Row) → length members ≤ i → i ≤ length members → AreRowsOfFirst facts members i rows → IsStrictlySortedBy row_cmp rows → AreHitsOfAll facts members (map hit_of rows)
+  pub rows_all : (i : ℕ) (rows : List Row) → length members ≤ i → i ≤ length members → AreRowsOfFirst facts members i rows → IsStrictlySortedBy row_cmp rows
+      → AreHitsOfAll facts members (map hit_of rows)
   rows_all i rows past within are ordered = record {
     each = all_hits (IsHitOfAny facts members) rows (λ r there. let h = are.right r there in (h.0, h.1, omega (arith, h.2, within), h.3, h.4));
     complete = λ hit is. hit_there rows hit (are.complete is.0 is.1 (row_of hit) (omega (arith, is.2, past)) is.3 is.4);

@@ -1,5 +1,6 @@
 -- Keyed facts: those that a sorted list lends, and those that are listed.
-use Rattle.std.proofs.Common.{◌≡◌, ℕ, ◌+◌, ◌-◌, ◌^◌, ◌<◌, ◌≤◌, List, [], ◌∷◌, ◌++◌, length, get_or, get_or-take, get_or-drop, take, drop, slice_get, Some, None, Option, All, Contains, ◌⊎◌, inl, inr, sym, ap, ◌∙◌, subst, arith, true, false, ltb, leb, length-take, length-drop}
+use Rattle.std.proofs.Common.{◌≡◌, ℕ, ◌+◌, ◌-◌, ◌^◌, ◌<◌, ◌≤◌, List, [], ◌∷◌, ◌++◌, length, get_or, get_or-take, get_or-drop, take, drop, slice_get, Some}
+use Rattle.std.proofs.Common.{None, Option, All, Contains, ◌⊎◌, inl, inr, sym, ap, ◌∙◌, subst, arith, true, false, ltb, leb, length-take, length-drop}
 use Rattle.std.specs.List.Sorted.{IsPartitionPoint, IsPermutation}
 use Rattle.std.proofs.lemmas.List.Sorted.{Contains-permutation, All-permutation}
 use Rattle.std.proofs.lemmas.Bool.{cases_lt}
@@ -26,13 +27,15 @@ not_above : (a b : ℕ) → leb a b ≡ true → a ≤ b
 not_above a b e = grind (arith, nat_tests)
 
 -- the place where the tests turn cuts the list
-pub cut_below : (list : List KeyedFact) (key place : ℕ) → IsPartitionPoint (λ (e : KeyedFact). ltb e.key key ≡ true) (λ (e : KeyedFact). ltb e.key key ≡ false) list place → IsCutBelow list key place
+pub cut_below : (list : List KeyedFact) (key place : ℕ) → IsPartitionPoint (λ (e : KeyedFact). ltb e.key key ≡ true)
+    (λ (e : KeyedFact). ltb e.key key ≡ false) list place → IsCutBelow list key place
 cut_below list key place point = record {
   before = λ k d lt. below (get_or list k d).key key (point.0 k d (omega arith) lt);
   behind = λ k d le lt. not_below (get_or list k d).key key (point.1 k d le lt);
 }
 
-pub cut_above : (list : List KeyedFact) (key place : ℕ) → IsPartitionPoint (λ (e : KeyedFact). leb e.key key ≡ true) (λ (e : KeyedFact). leb e.key key ≡ false) list place → IsCutAbove list key place
+pub cut_above : (list : List KeyedFact) (key place : ℕ) → IsPartitionPoint (λ (e : KeyedFact). leb e.key key ≡ true)
+    (λ (e : KeyedFact). leb e.key key ≡ false) list place → IsCutAbove list key place
 cut_above list key place point = record {
   before = λ k d lt. not_above (get_or list k d).key key (point.0 k d (omega arith) lt);
   behind = λ k d le lt. above (get_or list k d).key key (point.1 k d le lt);
@@ -53,7 +56,8 @@ in_order list low high from to first last ordered within = by (cases_lt to from)
         omega (arith, under, over, ordered)
 
 -- each entry between the keys stands between the cuts
-pub between_has : (list : List KeyedFact) (low high from to : ℕ) → IsCutBelow list low from → IsCutAbove list high to → to ≤ length list → (e : KeyedFact) → Contains list e → low ≤ e.key → e.key ≤ high → Contains (take (to - from) (drop from list)) e
+pub between_has : (list : List KeyedFact) (low high from to : ℕ) → IsCutBelow list low from → IsCutAbove list high to → to ≤ length list → (e : KeyedFact)
+    → Contains list e → low ≤ e.key → e.key ≤ high → Contains (take (to - from) (drop from list)) e
 between_has list low high from to first last inside e (k, within, at) over under = by (cases_lt k from) (cases_lt k to)
   where
     key_at : (get_or list k e).key ≡ e.key
@@ -66,7 +70,8 @@ between_has list low high from to first last inside e (k, within, at) over under
         let place : from + (k - from) ≡ k = omega (arith, le) in (
           k - from,
           omega (arith, le, lt, inside, within, length-take (to - from) (drop from list), length-drop from list),
-          get_or-take (to - from) (drop from list) (k - from) e (omega (arith, le, lt)) ∙ get_or-drop from list (k - from) e ∙ ap (λ (i : ℕ). get_or list i e) place ∙ at,
+          get_or-take (to - from) (drop from list) (k - from) e (omega (arith, le, lt)) ∙ get_or-drop from list (k - from) e
+              ∙ ap (λ (i : ℕ). get_or list i e) place ∙ at,
         )
 
 -- ---- those of the first facts
@@ -91,7 +96,8 @@ module _ (side : Side) (facts : List Fact) where
     named = up.named;
   }
 
-  module _ (i : ℕ) (list : List KeyedFact) (fact : Fact) (key : Option ℕ) (up : AreKeyedFactsUpTo side facts i list) (at : slice_get facts i ≡ Some fact) (found : (pred ind : ℕ) → StandsAt side fact pred ind → (ind < 2 ^ 32) × (key ≡ Some (key_of pred ind))) where
+  module _ (i : ℕ) (list : List KeyedFact) (fact : Fact) (key : Option ℕ) (up : AreKeyedFactsUpTo side facts i list) (at : slice_get facts i ≡ Some fact)
+      (found : (pred ind : ℕ) → StandsAt side fact pred ind → (ind < 2 ^ 32) × (key ≡ Some (key_of pred ind))) where
     same_fact : (n : ℕ) (f : Fact) → n ≡ i → slice_get facts n ≡ Some f → f ≡ fact
     same_fact n f same there =
         let both : Some f ≡ Some fact = sym there ∙ ap (slice_get facts) same ∙ at in
@@ -127,14 +133,17 @@ module _ (side : Side) (facts : List Fact) where
       named = All-push (λ (e : KeyedFact). e.number < length facts) list (record { key = k; number = i }) up.named (slice_get_within facts i fact at);
     }
       where
-        by : (n : ℕ) (f : Fact) (pred ind : ℕ) → n < i + 1 → slice_get facts n ≡ Some f → StandsAt side f pred ind → (n < i) ⊎ (i ≤ n) → IsUnder pred ind n (list ++ (record { key = k; number = i }) ∷ [])
-        by n f pred ind lt there stands (inl before) = Contains-append_left list ((record { key = k; number = i }) ∷ []) (record { key = key_of pred ind; number = n }) (up.all n f pred ind before there stands)
+        by : (n : ℕ) (f : Fact) (pred ind : ℕ) → n < i + 1 → slice_get facts n ≡ Some f → StandsAt side f pred ind → (n < i) ⊎ (i ≤ n)
+            → IsUnder pred ind n (list ++ (record { key = k; number = i }) ∷ [])
+        by n f pred ind lt there stands (inl before) = Contains-append_left list ((record { key = k; number = i }) ∷ [])
+            (record { key = key_of pred ind; number = n }) (up.all n f pred ind before there stands)
         by n f pred ind lt there stands (inr le) =
             let same : n ≡ i = omega (arith, le, lt) in
             let is = (found pred ind (subst (λ (g : Fact). StandsAt side g pred ind) (same_fact n f same there) stands)).1 in
             let both : Some k ≡ Some (key_of pred ind) = sym some ∙ is in
             let key_is : k ≡ key_of pred ind = cc both in
-            let keyed_is : record { key = k; number = i } ≡ record { key = key_of pred ind; number = n } = (λ j. record { key = key_is j; number = sym same j }) in
+            let keyed_is : record { key = k; number = i } ≡ record { key = key_of pred ind; number = n } =
+            (λ j. record { key = key_is j; number = sym same j }) in
             subst (Contains (list ++ (record { key = k; number = i }) ∷ [])) keyed_is (Contains-push list (record { key = k; number = i }))
 
 -- in another order they are still those of the facts

@@ -9,8 +9,6 @@ mod hits;
 mod image;
 mod places;
 mod search;
-#[cfg(test)]
-mod tests;
 
 pub use exactly::matches_with;
 pub use facts::PlainFacts;

@@ -1,5 +1,6 @@
 -- A chosen repair from a core, by a walk along an order of all facts.
-use Rattle.std.proofs.Common.{◌≡◌, ◌<◌, ◌≤◌, ◌+◌, ◌⊎◌, inl, inr, ℕ, zero, suc, Bool, List, [], ◌∷◌, ◌++◌, length, take, get_or, sym, ap, ◌∙◌, subst, arith, Contains, All}
+use Rattle.std.proofs.Common.{◌≡◌, ◌<◌, ◌≤◌, ◌+◌, ◌⊎◌, inl, inr, ℕ, zero, suc, Bool, List, [], ◌∷◌, ◌++◌, length, take, get_or, sym, ap, ◌∙◌, subst, arith}
+use Rattle.std.proofs.Common.{Contains, All}
 use Rattle.std.specs.List.{AllPairs}
 use Rattle.std.proofs.lemmas.Bool.{cases_eq, true≢false}
 use Rattle.std.proofs.lemmas.List.{take_more, take_all, length-take-le, get_or-take, get_or_default}
@@ -58,7 +59,8 @@ order_exists p h = linear_exists p.facts (IsBetter p) (λ i j b. conflict_below 
 abbrev IsStopped : Priority → List ℕ → ℕ → Type 0
 IsStopped p inside i = Contains p.own i ⊎ IsBlocked p (Contains inside) i
 
-blocked_wider : (p : Priority) (inside wider : List ℕ) → ((i : ℕ) → Contains inside i → Contains wider i) → (i : ℕ) → IsBlocked p (Contains inside) i → IsBlocked p (Contains wider) i
+blocked_wider : (p : Priority) (inside wider : List ℕ) → ((i : ℕ) → Contains inside i → Contains wider i) → (i : ℕ) → IsBlocked p (Contains inside) i
+    → IsBlocked p (Contains wider) i
 blocked_wider p inside wider h i b = (b.0, h b.0 b.1, b.2, b.3)
 
 module _ (p : Priority) (h : IsPriority p) (kept : List ℕ) (D : ℕ → Type 0) (core : IsCore p (Contains kept) D) where
@@ -81,12 +83,25 @@ module _ (p : Priority) (h : IsPriority p) (kept : List ℕ) (D : ℕ → Type 0
     full = λ i c. elim (Contains-push_cases seen m i c) [ inl d ↦ w.full i d | inr e ↦ inr (subst (IsStopped p inside) e s) ];
   }
 
-  joins : (inside seen : List ℕ) (m : ℕ) → IsWalked inside seen → (Contains p.own m → ⊥) → ((j : ℕ) → Contains inside j → Conflict p m j → ⊥) → IsWalked (m ∷ inside) (seen ++ m ∷ [])
+  joins : (inside seen : List ℕ) (m : ℕ) → IsWalked inside seen → (Contains p.own m → ⊥) → ((j : ℕ) → Contains inside j → Conflict p m j → ⊥)
+      → IsWalked (m ∷ inside) (seen ++ m ∷ [])
   joins inside seen m w own none = record {
     holds = λ i k. Contains-later m inside i (w.holds i k);
-    free = record { own = λ i c. alone i (Contains-cases m inside i c); pairs = λ i j c d. apart i j (Contains-cases m inside i c) (Contains-cases m inside j d) };
-    from = λ i c. elim (Contains-cases m inside i c) [ inl e ↦ inr (subst (Contains (seen ++ m ∷ [])) e (Contains-push seen m)) | inr d ↦ seen_more seen m i (w.from i d) ];
-    full = λ i c. elim (Contains-push_cases seen m i c) [ inl d ↦ wider i (w.full i d) | inr e ↦ inl (subst (Contains (m ∷ inside)) e (Contains-head m inside)) ];
+    free = record {
+      own = λ i c. alone i (Contains-cases m inside i c);
+      pairs =
+          λ i j c d. apart i j (Contains-cases m inside i c) (Contains-cases m inside j d);
+    };
+    from = λ i c. elim (Contains-cases m inside i c) [
+      | inl e ↦ inr (subst (Contains (seen ++ m ∷ [])) e (Contains-push seen m))
+      | inr d ↦
+          seen_more seen m i (w.from i d)
+    ];
+    full = λ i c. elim (Contains-push_cases seen m i c) [
+      | inl d ↦ wider i (w.full i d)
+      | inr e ↦
+          inl (subst (Contains (m ∷ inside)) e (Contains-head m inside))
+    ];
   }
     where
       alone : (i : ℕ) → (m ≡ i) ⊎ Contains inside i → Contains p.own i → ⊥
@@ -105,7 +120,8 @@ module _ (p : Priority) (h : IsPriority p) (kept : List ℕ) (D : ℕ → Type 0
       wider i (inr (inr b)) = inr (inr (blocked_wider p inside (m ∷ inside) (Contains-later m inside) i b))
 
   -- the next fact, which is better than none that was seen
-  next : (inside seen : List ℕ) (m : ℕ) → IsWalked inside seen → ((j : ℕ) → Contains seen j → IsBetter p m j → ⊥) → (more : List ℕ) × IsWalked more (seen ++ m ∷ [])
+  next : (inside seen : List ℕ) (m : ℕ) → IsWalked inside seen → ((j : ℕ) → Contains seen j → IsBetter p m j → ⊥) → (more : List ℕ)
+      × IsWalked more (seen ++ m ∷ [])
   next inside seen m w down = elim (member cases_eq m p.own) [
     | inl o ↦ (inside, stays_out inside seen m w (inl o))
     | inr own ↦ elim (all_or_some (λ j. Conflict p m j → ⊥) (Conflict p m) (conflict_or_not p m) inside) [
@@ -115,7 +131,8 @@ module _ (p : Priority) (h : IsPriority p) (kept : List ℕ) (D : ℕ → Type 0
   ]
     where
       stop : (j : ℕ) → Contains inside j → Conflict p m j → Contains kept j ⊎ Contains seen j → IsStopped p inside m
-      stop j c r (inl k) = elim (core.blocked m (core.drops j m k (Conflict-sym p m j r))) [ inl o ↦ inl o | inr b ↦ inr (blocked_wider p kept inside w.holds m b) ]
+      stop j c r (inl k) = elim (core.blocked m (core.drops j m k (Conflict-sym p m j r)))
+          [ inl o ↦ inl o | inr b ↦ inr (blocked_wider p kept inside w.holds m b) ]
       stop j c r (inr s) = inr (j, c, r, down j s)
 
   walk : (order : List ℕ) → AllPairs (λ i j. ¬ IsBetter p j i) order → (k : ℕ) → k ≤ length order → (inside : List ℕ) × IsWalked inside (take k order)

@@ -46,10 +46,12 @@ pub record IsRing (facts next : ℕ) (listed : List (ℕ × ℕ)) : Type 0 where
   pub upward : All (λ c. (c.0 < c.1) × (c.1 < facts)) listed
   pub ascending : AllPairs IsBefore listed
 
-pub ring_more : (facts next : ℕ) (listed : List (ℕ × ℕ)) → IsRing facts next listed → next + 1 < facts → IsRing facts (next + 1) (listed ++ (next, next + 1) ∷ [])
+pub ring_more : (facts next : ℕ) (listed : List (ℕ × ℕ)) → IsRing facts next listed → next + 1 < facts
+    → IsRing facts (next + 1) (listed ++ (next, next + 1) ∷ [])
 ring_more facts next listed h l = record {
   long = omega (arith, h.long, length_push listed (next, next + 1));
-  earlier = All-append (λ (c : ℕ × ℕ). c.0 < next + 1) listed ((next, next + 1) ∷ []) (All-weaker (λ (c : ℕ × ℕ). c.0 < next) (λ (c : ℕ × ℕ). c.0 < next + 1) (λ c m. omega arith) listed h.earlier)
+  earlier = All-append (λ (c : ℕ × ℕ). c.0 < next + 1) listed ((next, next + 1) ∷ [])
+      (All-weaker (λ (c : ℕ × ℕ). c.0 < next) (λ (c : ℕ × ℕ). c.0 < next + 1) (λ c m. omega arith) listed h.earlier)
       (All-cons (λ (c : ℕ × ℕ). c.0 < next + 1) (next, next + 1) [] (omega arith) (All-nil (λ (c : ℕ × ℕ). c.0 < next + 1)));
   upward = All-append (λ (c : ℕ × ℕ). (c.0 < c.1) × (c.1 < facts)) listed ((next, next + 1) ∷ []) h.upward
       (All-cons (λ (c : ℕ × ℕ). (c.0 < c.1) × (c.1 < facts)) (next, next + 1) [] (omega arith, l) (All-nil (λ (c : ℕ × ℕ). (c.0 < c.1) × (c.1 < facts))));

@@ -1,5 +1,6 @@
 -- Counting the numbers below a bound that pass a test, and counts by place.
-use Rattle.std.proofs.Common.{◌≡◌, ◌≢◌, ◌<◌, ◌≤◌, ◌+◌, ◌-◌, ◌⊎◌, inl, inr, ◌||◌, ℕ, zero, suc, Bool, true, false, cond, eqb, List, [], ◌∷◌, ◌++◌, length, take, get_or, set, refl, sym, ap, ◌∙◌, subst, arith, Contains, All}
+use Rattle.std.proofs.Common.{◌≡◌, ◌≢◌, ◌<◌, ◌≤◌, ◌+◌, ◌-◌, ◌⊎◌, inl, inr, ◌||◌, ℕ, zero, suc, Bool, true, false, cond, eqb, List, [], ◌∷◌, ◌++◌, length}
+use Rattle.std.proofs.Common.{take, get_or, set, refl, sym, ap, ◌∙◌, subst, arith, Contains, All}
 use Rattle.std.specs.List.{filter, AllPairs}
 use Rattle.std.proofs.lemmas.Bool.{cases_eq, eq-eqb, ne_eqb}
 use Rattle.std.proofs.lemmas.List.{append-nil, take_more, length-take-le, length-set, get_or-take, get_or-set_same, get_or-set_other, get_or_default}
@@ -55,7 +56,8 @@ count_none p (suc n) i e l = by (cases_eq i n) (p n) refl (λ z m. count_none p 
     by : (i ≡ n) ⊎ (i ≡ n → ⊥) → (b : Bool) → p n ≡ b → (count_below p n ≡ 0 → i < n → p i ≡ false) → p i ≡ false
     by s true is again = let more : count_below p n + 1 ≡ 0 = ap (λ (b : Bool). count_below p n + cond b 1 0) (sym is) ∙ e in absurd (omega arith)
     by (inl s) false is again = subst (λ (k : ℕ). p k ≡ false) (sym s) is
-    by (inr s) false is again = let none : count_below p n + 0 ≡ 0 = ap (λ (b : Bool). count_below p n + cond b 1 0) (sym is) ∙ e in again (omega arith) (omega arith)
+    by (inr s) false is again = let none : count_below p n + 0 ≡ 0 = ap (λ (b : Bool). count_below p n + cond b 1 0) (sym is) ∙ e in
+        again (omega arith) (omega arith)
 
 pub count_some : (p : ℕ → Bool) (n : ℕ) → count_below p n ≢ 0 → (i : ℕ) × (i < n) × (p i ≡ true)
 count_some p zero h = absurd (h refl)
@@ -126,12 +128,15 @@ module _ (list : List ℕ) (k : ℕ) (up : IsAscending list) (within : k < lengt
       inside : place < length new
       inside = subst (λ (n : ℕ). place < n) (sym h.all) (known k 0 within)
 
-      by : (i : ℕ) → i < length old → (place ≡ i) ⊎ (place ≡ i → ⊥) → get_or (set new place (value + 1)) i 0 ≡ get_or old i 0 + cond (has (take (k + 1) list) i) 1 0
+      by : (i : ℕ) → i < length old → (place ≡ i) ⊎ (place ≡ i → ⊥)
+          → get_or (set new place (value + 1)) i 0 ≡ get_or old i 0 + cond (has (take (k + 1) list) i) 1 0
       by i l (inl same) = subst (λ (m : ℕ). get_or (set new place (value + 1)) m 0 ≡ get_or old m 0 + cond (has (take (k + 1) list) m) 1 0) same
           (let was : get_or new place 0 ≡ get_or old place 0 + cond (has (take k list) place) 1 0 = h.exact place (known k 0 within) in
-          let before : get_or new place 0 ≡ get_or old place 0 + 0 = was ∙ ap (λ (b : Bool). get_or old place 0 + cond b 1 0) (before_ascending list k up within) in
+          let before : get_or new place 0 ≡ get_or old place 0 + 0 = was
+          ∙ ap (λ (b : Bool). get_or old place 0 + cond b 1 0) (before_ascending list k up within) in
           rw now_has (get_or-set_same new place (value + 1) 0 inside ∙ omega (arith, read, get_or_default new place value 0 inside, before)))
-      by i l (inr other) = get_or-set_other new place i (value + 1) 0 (λ s. other (sym s)) ∙ h.exact i l ∙ ap (λ (b : Bool). get_or old i 0 + cond b 1 0) (sym (has_as_before i other))
+      by i l (inr other) = get_or-set_other new place i (value + 1) 0 (λ s. other (sym s)) ∙ h.exact i l
+          ∙ ap (λ (b : Bool). get_or old i 0 + cond b 1 0) (sym (has_as_before i other))
 
   -- what the next place has left
   pub takes_some : (old new : List ℕ) → AddsEach new old (take k list) → All (λ i. i < length old) list → get_or old place 0 ≡ get_or new place 0
@@ -151,7 +156,8 @@ module _ (list : List ℕ) (k : ℕ) (up : IsAscending list) (within : k < lengt
       inside : place < length new
       inside = subst (λ (n : ℕ). place < n) h.all (known k 0 within)
 
-      by : (i : ℕ) → i < length new → (place ≡ i) ⊎ (place ≡ i → ⊥) → get_or old i 0 ≡ get_or (set new place (get_or new place 0 - 1)) i 0 + cond (has (take (k + 1) list) i) 1 0
+      by : (i : ℕ) → i < length new → (place ≡ i) ⊎ (place ≡ i → ⊥)
+          → get_or old i 0 ≡ get_or (set new place (get_or new place 0 - 1)) i 0 + cond (has (take (k + 1) list) i) 1 0
       by i l (inl same) = subst (λ (m : ℕ). get_or old m 0 ≡ get_or (set new place (get_or new place 0 - 1)) m 0 + cond (has (take (k + 1) list) m) 1 0) same
           (rw now_has (omega (arith, takes_some old new h known, get_or-set_same new place (get_or new place 0 - 1) 0 inside)))
       by i l (inr other) = h.exact i l ∙ ap (λ (b : Bool). get_or new i 0 + cond b 1 0) (sym (has_as_before i other))
@@ -159,7 +165,8 @@ module _ (list : List ℕ) (k : ℕ) (up : IsAscending list) (within : k < lengt
 
   -- whether the next place had one left
   pub released_yes : (old new : List ℕ) → AddsEach new old (take k list) → All (λ i. i < length old) list → 0 < get_or old place 0
-      → get_or (set new place (get_or new place 0 - 1)) place 0 ≡ 0 → filter (λ i. eqb (get_or old i 0) 1) (take (k + 1) list) ≡ filter (λ i. eqb (get_or old i 0) 1) (take k list) ++ place ∷ []
+      → get_or (set new place (get_or new place 0 - 1)) place 0 ≡ 0
+      → filter (λ i. eqb (get_or old i 0) 1) (take (k + 1) list) ≡ filter (λ i. eqb (get_or old i 0) 1) (take k list) ++ place ∷ []
   released_yes old new h known some none =
       let inside : place < length new = subst (λ (n : ℕ). place < n) h.all (known k 0 within) in
       let one : get_or old place 0 ≡ 1 = omega (arith, takes_some old new h known, get_or-set_same new place (get_or new place 0 - 1) 0 inside) in
@@ -167,16 +174,22 @@ module _ (list : List ℕ) (k : ℕ) (up : IsAscending list) (within : k < lengt
       ∙ ap (λ (b : Bool). filter (λ i. eqb (get_or old i 0) 1) (take k list) ++ cond b (place ∷ []) []) (eq-eqb (get_or old place 0) 1 one)
 
   pub released_no : (old new : List ℕ) → AddsEach new old (take k list) → All (λ i. i < length old) list → 0 < get_or old place 0
-      → get_or (set new place (get_or new place 0 - 1)) place 0 ≢ 0 → filter (λ i. eqb (get_or old i 0) 1) (take (k + 1) list) ≡ filter (λ i. eqb (get_or old i 0) 1) (take k list)
+      → get_or (set new place (get_or new place 0 - 1)) place 0 ≢ 0
+      → filter (λ i. eqb (get_or old i 0) 1) (take (k + 1) list) ≡ filter (λ i. eqb (get_or old i 0) 1) (take k list)
   released_no old new h known some more =
       let inside : place < length new = subst (λ (n : ℕ). place < n) h.all (known k 0 within) in
-      let other : get_or old place 0 ≡ 1 → ⊥ = λ one. more (omega (arith, takes_some old new h known, get_or-set_same new place (get_or new place 0 - 1) 0 inside)) in
+      let other : get_or old place 0 ≡ 1 → ⊥ = λ one. more (omega (
+        arith,
+        takes_some old new h known,
+        get_or-set_same new place (get_or new place 0 - 1) 0 inside,
+      )) in
       filter_more (λ i. eqb (get_or old i 0) 1) list k 0 within
       ∙ ap (λ (b : Bool). filter (λ i. eqb (get_or old i 0) 1) (take k list) ++ cond b (place ∷ []) []) (ne_eqb (get_or old place 0) 1 other)
       ∙ append-nil (filter (λ i. eqb (get_or old i 0) 1) (take k list))
 
 -- one more count: its place is put where it is zero
-pub zeros_yes : (counts places : List ℕ) (k : ℕ) → k < length counts → AreZeros (take k counts) places → get_or counts k 0 ≡ 0 → AreZeros (take (k + 1) counts) (places ++ k ∷ [])
+pub zeros_yes : (counts places : List ℕ) (k : ℕ) → k < length counts → AreZeros (take k counts) places → get_or counts k 0 ≡ 0
+    → AreZeros (take (k + 1) counts) (places ++ k ∷ [])
 zeros_yes counts places k l h is = record {
   ascending = all_pairs_push (λ i j. i < j) places k h.ascending (λ m d n.
       let there = (h.exact (get_or places m d)).0 (Contains-get_or places m d n) in
@@ -206,9 +219,14 @@ zeros_yes counts places k l h is = record {
         by (inl s) = subst (Contains (places ++ k ∷ [])) (sym s) (Contains-push places k)
         by (inr n) =
             let less : i < k = omega (arith, long) in
-            Contains-append_left places (k ∷ []) i ((h.exact i).1 (omega (arith, short), get_or-take k counts i 0 less ∙ sym (get_or-take (k + 1) counts i 0 (omega arith)) ∙ e))
+            Contains-append_left places (k ∷ []) i ((h.exact i).1 (
+              omega (arith, short),
+              get_or-take k counts i 0 less
+                  ∙ sym (get_or-take (k + 1) counts i 0 (omega arith)) ∙ e,
+            ))
 
-pub zeros_no : (counts places : List ℕ) (k : ℕ) → k < length counts → AreZeros (take k counts) places → get_or counts k 0 ≢ 0 → AreZeros (take (k + 1) counts) places
+pub zeros_no : (counts places : List ℕ) (k : ℕ) → k < length counts → AreZeros (take k counts) places → get_or counts k 0 ≢ 0
+    → AreZeros (take (k + 1) counts) places
 zeros_no counts places k l h is = record {
   ascending = h.ascending;
   exact = λ i. (to i, from i);

@@ -1,8 +1,11 @@
 -- A walk from fact to parent closes, and turned round it is a cycle.
-use Rattle.std.proofs.Common.{◌≡◌, ◌≢◌, ◌<◌, ◌≤◌, ◌+◌, ◌-◌, ◌⊎◌, inl, inr, ℕ, suc, Bool, true, false, cond, List, [], ◌∷◌, ◌++◌, length, take, drop, reverse, get_or, set, refl, sym, ap, ◌∙◌, subst, arith, Contains, All}
+use Rattle.std.proofs.Common.{◌≡◌, ◌≢◌, ◌<◌, ◌≤◌, ◌+◌, ◌-◌, ◌⊎◌, inl, inr, ℕ, suc, Bool, true, false, cond, List, [], ◌∷◌, ◌++◌, length, take, drop, reverse}
+use Rattle.std.proofs.Common.{get_or, set, refl, sym, ap, ◌∙◌, subst, arith, Contains, All}
 use Rattle.std.specs.List.{AllPairs}
 use Rattle.std.proofs.lemmas.Bool.{cases_lt, true≢false}
-use Rattle.std.proofs.lemmas.List.{append-nil, take-append-drop, drop_more, take_more, reverse-append, length-set, length-append, length-drop, length_push, length-reverse, get_or_default, get_or_read, get_or_push, get_or-drop, get_or-reverse, get_or_append_left, get_or-append_right, get_or-append-add, get_or-set_same, get_or-set_other}
+use Rattle.std.proofs.lemmas.List.{append-nil, take-append-drop, drop_more, take_more, reverse-append, length-set, length-append, length-drop, length_push}
+use Rattle.std.proofs.lemmas.List.{length-reverse, get_or_default, get_or_read, get_or_push, get_or-drop, get_or-reverse, get_or_append_left}
+use Rattle.std.proofs.lemmas.List.{get_or-append_right, get_or-append-add, get_or-set_same, get_or-set_other}
 use Rattle.std.proofs.lemmas.List.Elements.{All-nil, All-push, All-append, Contains-get_or}
 use Rattle.std.proofs.lemmas.List.Kept.{AllPairs-cons}
 use Rattle.std.proofs.lemmas.List.Quantifiers.{all_pairs_push}
@@ -29,7 +32,8 @@ pub record IsWalk (counts parents path places : List ℕ) (fact : ℕ) : Type 0 
   pub next : (k : ℕ) → k + 1 ≡ length path → get_or parents (get_or path k 0) 0 ≡ fact
 
 -- one more fact that is left
-pub parents_more : (lists : List (List ℕ)) (counts parents new : List ℕ) (fact : ℕ) → AreParentsBelow lists counts parents fact → fact < length counts → get_or counts fact 0 ≢ 0
+pub parents_more : (lists : List (List ℕ)) (counts parents new : List ℕ) (fact : ℕ) → AreParentsBelow lists counts parents fact → fact < length counts
+    → get_or counts fact 0 ≢ 0
     → SetsEach parents new (get_or lists fact []) fact → AreParentsBelow lists counts new (fact + 1)
 parents_more lists counts parents new fact h within some set = record {
   all = set.all ∙ h.all;
@@ -47,7 +51,8 @@ parents_more lists counts parents new fact h within some set = record {
         (subst (IsLeft counts) (sym e) old.0, subst (λ (p : ℕ). Contains (get_or lists p []) i) (sym e) old.1)
 
 -- one more fact that isn't left
-pub parents_kept : (lists : List (List ℕ)) (counts parents : List ℕ) (fact : ℕ) → AreParentsBelow lists counts parents fact → get_or counts fact 0 ≡ 0 → AreParentsBelow lists counts parents (fact + 1)
+pub parents_kept : (lists : List (List ℕ)) (counts parents : List ℕ) (fact : ℕ) → AreParentsBelow lists counts parents fact → get_or counts fact 0 ≡ 0
+    → AreParentsBelow lists counts parents (fact + 1)
 parents_kept lists counts parents fact h none = record {
   all = h.all;
   exact = λ i u l m left c.
@@ -55,7 +60,8 @@ parents_kept lists counts parents fact h none = record {
       h.exact i u l (omega (arith, other)) left c;
 }
 
-pub parents_all : (lists : List (List ℕ)) (counts parents : List ℕ) (bound : ℕ) → AreParentsBelow lists counts parents bound → length counts ≤ bound → AreParents lists counts parents
+pub parents_all : (lists : List (List ℕ)) (counts parents : List ℕ) (bound : ℕ) → AreParentsBelow lists counts parents bound → length counts ≤ bound
+    → AreParents lists counts parents
 parents_all lists counts parents bound h past = record {
   all = h.all;
   exact = λ i u l left c. h.exact i u l (omega (arith, left.0)) left c;
@@ -107,7 +113,8 @@ module _ (counts parents path places : List ℕ) (fact : ℕ) (h : IsWalk counts
         old : (k : ℕ) → k < length path → get_or (path ++ fact ∷ []) k 0 ≡ get_or path k 0
         old k l = get_or_append_left path (fact ∷ []) 0 k l
 
-        placed : (k : ℕ) → k < length path + 1 → (k < length path) ⊎ (length path ≤ k) → get_or (set places fact (length path)) (get_or (path ++ fact ∷ []) k 0) 0 ≡ k
+        placed : (k : ℕ) → k < length path + 1 → (k < length path) ⊎ (length path ≤ k)
+            → get_or (set places fact (length path)) (get_or (path ++ fact ∷ []) k 0) 0 ≡ k
         placed k l (inl less) =
             let other : get_or path k 0 ≢ fact = λ s. absent (k, less, get_or_default path k fact 0 less ∙ s) in
             ap (λ (n : ℕ). get_or (set places fact (length path)) n 0) (old k less)
@@ -119,7 +126,8 @@ module _ (counts parents path places : List ℕ) (fact : ℕ) (h : IsWalk counts
             ∙ get_or-set_same places fact (length path) 0 (omega (arith, h.here.0, h.all))
             ∙ omega arith
 
-        steps : (k : ℕ) → k + 1 < length path + 1 → (k + 1 < length path) ⊎ (length path ≤ k + 1) → get_or parents (get_or (path ++ fact ∷ []) k 0) 0 ≡ get_or (path ++ fact ∷ []) (k + 1) 0
+        steps : (k : ℕ) → k + 1 < length path + 1 → (k + 1 < length path) ⊎ (length path ≤ k + 1)
+            → get_or parents (get_or (path ++ fact ∷ []) k 0) 0 ≡ get_or (path ++ fact ∷ []) (k + 1) 0
         steps k l (inl less) = ap (λ (n : ℕ). get_or parents n 0) (old k (omega arith)) ∙ h.steps k less ∙ sym (old (k + 1) less)
         steps k l (inr more) =
             ap (λ (n : ℕ). get_or parents n 0) (old k (omega arith))
@@ -130,8 +138,11 @@ module _ (counts parents path places : List ℕ) (fact : ℕ) (h : IsWalk counts
 chain_from : (S : ℕ → ℕ → Type 0) (x : ℕ) (xs : List ℕ) (end : ℕ) → ((k : ℕ) → k + 1 < length (x ∷ xs) → S (get_or (x ∷ xs) k 0) (get_or (x ∷ xs) (k + 1) 0))
     → ((k : ℕ) → k + 1 ≡ length (x ∷ xs) → S (get_or (x ∷ xs) k 0) end) → Chain S x xs end
 chain_from S x [] end steps last = last 0 (omega arith)
-chain_from S x (y ∷ ys) end steps last =
-    (steps 0 (omega arith), chain_from S y ys end (λ k l. let next : suc k + 1 ≡ suc (k + 1) = omega arith in subst (λ (n : ℕ). S (get_or (y ∷ ys) k 0) (get_or (x ∷ y ∷ ys) n 0)) next (steps (suc k) (omega arith))) (λ k e. last (suc k) (omega arith)))
+chain_from S x (y ∷ ys) end steps last = (
+  steps 0 (omega arith),
+  chain_from S y ys end (λ k l. let next : suc k + 1 ≡ suc (k + 1) = omega arith in
+      subst (λ (n : ℕ). S (get_or (y ∷ ys) k 0) (get_or (x ∷ y ∷ ys) n 0)) next (steps (suc k) (omega arith))) (λ k e. last (suc k) (omega arith)),
+)
 
 -- a closed chain by places
 closed_from : (S : ℕ → ℕ → Type 0) (xs : List ℕ) → 0 < length xs → ((k : ℕ) → k + 1 < length xs → S (get_or xs k 0) (get_or xs (k + 1) 0))
@@ -140,13 +151,15 @@ closed_from S [] some steps last = absurd (omega arith)
 closed_from S (x ∷ xs) some steps last = chain_from S x xs x steps last
 
 -- the walk from the fact that came again
-pub walk_closes : (counts parents path places : List ℕ) (fact place : ℕ) → IsWalk counts parents path places fact → place < length path → get_or path place 0 ≡ fact
+pub walk_closes : (counts parents path places : List ℕ) (fact place : ℕ) → IsWalk counts parents path places fact → place < length path
+    → get_or path place 0 ≡ fact
     → IsClosed (λ i p. IsParent counts parents p i) (drop place path) × AllPairs (λ i j. i ≢ j) (drop place path)
 walk_closes counts parents path places fact place h l again = (
   closed_from (λ i p. IsParent counts parents p i) (drop place path) (omega (arith, long))
       (λ k m.
       let a = get_or-drop place path k 0 in
-      let b : get_or (drop place path) (k + 1) 0 ≡ get_or path (place + k + 1) 0 = get_or-drop place path (k + 1) 0 ∙ ap (λ (n : ℕ). get_or path n 0) (omega arith) in (
+      let b : get_or (drop place path) (k + 1) 0 ≡ get_or path (place + k + 1) 0 =
+      get_or-drop place path (k + 1) 0 ∙ ap (λ (n : ℕ). get_or path n 0) (omega arith) in (
         subst (IsLeft counts) (sym a) (h.left (place + k) 0 (omega (arith, long))),
         ap (λ (n : ℕ). get_or parents n 0) a ∙ h.steps (place + k) (omega (arith, long)) ∙ sym b,
       ))
@@ -156,7 +169,8 @@ walk_closes counts parents path places fact place h l again = (
         subst (IsLeft counts) (sym a) (h.left (place + k) 0 (omega (arith, long))),
         ap (λ (n : ℕ). get_or parents n 0) a ∙ h.next (place + k) (omega (arith, long, e)) ∙ sym again ∙ sym b,
       )),
-  λ i j d less m e. walk_distinct counts parents path places fact h (place + i) (place + j) d (omega arith) (omega (arith, long)) (sym (get_or-drop place path i d) ∙ e ∙ get_or-drop place path j d),
+  λ i j d less m e. walk_distinct counts parents path places fact h (place + i) (place + j) d (omega arith) (omega (arith, long))
+      (sym (get_or-drop place path i d) ∙ e ∙ get_or-drop place path j d),
 )
   where
     long : length (drop place path) ≡ length path - place
@@ -175,19 +189,22 @@ chain_join S x (z ∷ xs) y ys end (a, rest) b = (a, chain_join S z xs y ys end 
 chain_back : (S R : ℕ → ℕ → Type 0) → ((i j : ℕ) → S i j → R j i) → (x : ℕ) (xs : List ℕ) (end : ℕ) → Chain S x xs end → Chain R end (reverse xs) x
 chain_back S R turn x [] end a = turn x end a
 chain_back S R turn x (y ∷ xs) end (a, rest) =
-    subst (λ (zs : List ℕ). Chain R end zs x) (sym (reverse-append (y ∷ []) xs)) (chain_join R end (reverse xs) y [] x (chain_back S R turn y xs end rest) (turn x y a))
+    subst (λ (zs : List ℕ). Chain R end zs x) (sym (reverse-append (y ∷ []) xs))
+    (chain_join R end (reverse xs) y [] x (chain_back S R turn y xs end rest) (turn x y a))
 
 All-reverse : (P : ℕ → Type 0) (xs : List ℕ) → All P xs → All P (reverse xs)
 All-reverse P xs h = All-permutation P xs (reverse xs) (IsPermutation-reverse xs) h
 
 -- distinct lists joined, cut and turned
-distinct_join : (xs ys : List ℕ) → AllPairs (λ i j. i ≢ j) xs → AllPairs (λ i j. i ≢ j) ys → ((i j : ℕ) → Contains xs i → Contains ys j → i ≢ j) → AllPairs (λ i j. i ≢ j) (xs ++ ys)
+distinct_join : (xs ys : List ℕ) → AllPairs (λ i j. i ≢ j) xs → AllPairs (λ i j. i ≢ j) ys → ((i j : ℕ) → Contains xs i → Contains ys j → i ≢ j)
+    → AllPairs (λ i j. i ≢ j) (xs ++ ys)
 distinct_join xs ys a b cross i j d less l = by (cases_lt i (length xs)) (cases_lt j (length xs))
   where
     by : (i < length xs) ⊎ (length xs ≤ i) → (j < length xs) ⊎ (length xs ≤ j) → get_or (xs ++ ys) i d ≡ get_or (xs ++ ys) j d → ⊥
     by (inl p) (inl q) e = a i j d less q (sym (get_or_append_left xs ys d i p) ∙ e ∙ get_or_append_left xs ys d j q)
     by (inl p) (inr q) e =
-        cross (get_or xs i d) (get_or ys (j - length xs) d) (Contains-get_or xs i d p) (Contains-get_or ys (j - length xs) d (omega (arith, length-append xs ys)))
+        cross (get_or xs i d) (get_or ys (j - length xs) d) (Contains-get_or xs i d p)
+        (Contains-get_or ys (j - length xs) d (omega (arith, length-append xs ys)))
         (sym (get_or_append_left xs ys d i p) ∙ e ∙ get_or-append_right xs ys (length xs) j d refl q)
     by (inr p) (inl q) e = omega arith
     by (inr p) (inr q) e =
@@ -213,7 +230,8 @@ distinct_reverse xs h i j d less l e =
     h (length xs - 1 - j) (length xs - 1 - i) d (omega arith) (omega arith) (sym (get_or-reverse xs j d short) ∙ sym e ∙ get_or-reverse xs i d (omega arith))
 
 -- a closed walk turned round is a cycle
-pub turned_is_cycle : (S R : ℕ → ℕ → Type 0) → ((i j : ℕ) → S i j → R j i) → (walk cycle : List ℕ) → IsClosed S walk → AllPairs (λ i j. i ≢ j) walk → IsTurned walk cycle → IsCycle R cycle
+pub turned_is_cycle : (S R : ℕ → ℕ → Type 0) → ((i j : ℕ) → S i j → R j i) → (walk cycle : List ℕ) → IsClosed S walk → AllPairs (λ i j. i ≢ j) walk
+    → IsTurned walk cycle → IsCycle R cycle
 turned_is_cycle S R turn walk cycle closed distinct (before, least, after, parts, turned, low) =
     subst (IsCycle R) (sym turned) (record {
       closed = chain_back S R turn least (after ++ before) least (around before (subst (IsClosed S) parts closed));
@@ -237,8 +255,10 @@ turned_is_cycle S R turn walk cycle closed distinct (before, least, after, parts
 
     below : All (λ i. least ≤ i) (after ++ before)
     below = All-append (λ i. least ≤ i) after before
-        (λ k d l. subst (λ (n : ℕ). least ≤ n) (get_or-append-add before (least ∷ after) (suc k) d) (low' (length before + suc k) d (omega (arith, length-append before (least ∷ after)))))
-        (λ k d l. subst (λ (n : ℕ). least ≤ n) (get_or_append_left before (least ∷ after) d k l) (low' k d (omega (arith, length-append before (least ∷ after)))))
+        (λ k d l. subst (λ (n : ℕ). least ≤ n) (get_or-append-add before (least ∷ after) (suc k) d)
+        (low' (length before + suc k) d (omega (arith, length-append before (least ∷ after)))))
+        (λ k d l. subst (λ (n : ℕ). least ≤ n) (get_or_append_left before (least ∷ after) d k l)
+        (low' k d (omega (arith, length-append before (least ∷ after)))))
 
     around : (xs : List ℕ) → IsClosed S (xs ++ least ∷ after) → Chain S least (after ++ xs) least
     around [] c = subst (λ (ys : List ℕ). Chain S least ys least) (sym (append-nil after)) c
@@ -247,7 +267,8 @@ turned_is_cycle S R turn walk cycle closed distinct (before, least, after, parts
         chain_join S least after x xs least cut.1 cut.0
 
 -- what is cut behind the least, both parts turned round
-pub turned_from : (walk : List ℕ) (place : ℕ) → place < length walk → All (λ i. get_or walk place 0 ≤ i) walk → IsTurned walk (reverse (take (place + 1) walk) ++ reverse (drop (place + 1) walk))
+pub turned_from : (walk : List ℕ) (place : ℕ) → place < length walk → All (λ i. get_or walk place 0 ≤ i) walk
+    → IsTurned walk (reverse (take (place + 1) walk) ++ reverse (drop (place + 1) walk))
 turned_from walk place l low = (
   take place walk,
   get_or walk place 0,
@@ -264,7 +285,8 @@ pub new_past : (path places : List ℕ) (fact place : ℕ) → fact < length pla
     → get_or places fact 0 < length path → get_or path (get_or places fact 0) 0 ≡ fact → ⊥
 new_past path places fact place inside read past l e = let at = get_or_read places fact place inside read 0 in omega (arith, at)
 
-pub new_other : (path places : List ℕ) (fact place there : ℕ) → fact < length places → place ≡ get_or places fact place → place < length path → there ≡ get_or path place there → there ≢ fact
+pub new_other : (path places : List ℕ) (fact place there : ℕ) → fact < length places → place ≡ get_or places fact place → place < length path
+    → there ≡ get_or path place there → there ≢ fact
     → get_or places fact 0 < length path → get_or path (get_or places fact 0) 0 ≡ fact → ⊥
 new_other path places fact place there inside read within at other l e =
     let is = get_or_read places fact place inside read 0 in

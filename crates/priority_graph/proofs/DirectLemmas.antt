@@ -2,7 +2,8 @@
 use Rattle.std.proofs.Common.{◌≡◌, ◌<◌, ◌≤◌, ◌+◌, ◌⊎◌, inl, inr, ◌↔◌, ℕ, List, [], ◌∷◌, ◌++◌, length, take, get_or, sym, ◌∙◌, subst, arith, Contains, All}
 use Rattle.std.proofs.lemmas.Bool.{cases_Bool, true≢false}
 use Rattle.std.proofs.lemmas.List.{take_more, take_all, get_or_default}
-use Rattle.std.proofs.lemmas.List.Elements.{All-contains, Contains-get_or, Contains-append_left, Contains-append_right, Contains-append_cases, Contains-push, Contains-push_cases}
+use Rattle.std.proofs.lemmas.List.Elements.{All-contains, Contains-get_or, Contains-append_left, Contains-append_right, Contains-append_cases, Contains-push}
+use Rattle.std.proofs.lemmas.List.Elements.{Contains-push_cases}
 use Rattle.cq_terms.specs.Conflicts.{ConflictGraph, AreInConflict}
 use Rattle.cq_terms.specs.Lists.{IsAscending, IsSorted}
 use Rattle.priority_graph.specs.Priority.{Priority, Conflict, IsBetter, IsPriority, IsOver, AreBlockers}
@@ -23,8 +24,10 @@ pub conflict_of : (p : Priority) (g : ConflictGraph) (i j : ℕ) → IsOver p g 
 conflict_of p g i j over c = subst (λ (cs : List (ℕ × ℕ)). Contains cs (i, j) ⊎ Contains cs (j, i)) (sym over.couples) c
 
 -- what conflicts with one more kept fact
-pub rivals_more : (p : Priority) (kept : List ℕ) (k : ℕ) (rivals worse blockers : List ℕ) → k < length kept → ((j : ℕ) → Contains rivals j ↔ ConflictsWith p (take k kept) j)
-    → ((j : ℕ) → Contains worse j ↔ IsBetter p (get_or kept k 0) j) → ((j : ℕ) → IsBetter p (get_or kept k 0) j → Conflict p (get_or kept k 0) j) → AreBlockers p (get_or kept k 0) blockers
+pub rivals_more : (p : Priority) (kept : List ℕ) (k : ℕ) (rivals worse blockers : List ℕ) → k < length kept
+    → ((j : ℕ) → Contains rivals j ↔ ConflictsWith p (take k kept) j)
+    → ((j : ℕ) → Contains worse j ↔ IsBetter p (get_or kept k 0) j) → ((j : ℕ) → IsBetter p (get_or kept k 0) j → Conflict p (get_or kept k 0) j)
+    → AreBlockers p (get_or kept k 0) blockers
     → (j : ℕ) → Contains (rivals ++ worse ++ blockers) j ↔ ConflictsWith p (take (k + 1) kept) j
 rivals_more p kept k rivals worse blockers l h w c b j = (to, from)
   where
@@ -64,27 +67,33 @@ rivals_more p kept k rivals worse blockers l h w c b j = (to, from)
 pub rivals_none : (p : Priority) (j : ℕ) → Contains [] j ↔ ConflictsWith p [] j
 rivals_none p j = ((λ (k, l, e). absurd (omega arith)), (λ (i, (k, l, e), c). absurd (omega arith)))
 
-pub rivals_all : (p : Priority) (kept : List ℕ) (k : ℕ) (rivals : List ℕ) → length kept ≤ k → ((j : ℕ) → Contains rivals j ↔ ConflictsWith p (take k kept) j) → (j : ℕ) → Contains rivals j ↔ ConflictsWith p kept j
+pub rivals_all : (p : Priority) (kept : List ℕ) (k : ℕ) (rivals : List ℕ) → length kept ≤ k → ((j : ℕ) → Contains rivals j ↔ ConflictsWith p (take k kept) j)
+    → (j : ℕ) → Contains rivals j ↔ ConflictsWith p kept j
 rivals_all p kept k rivals l h = rw (take_all k kept l) at h
 
 -- the same facts in ascending order
-pub sorted_exact : (p : Priority) (kept rivals sorted : List ℕ) → IsSorted rivals sorted → ((j : ℕ) → Contains rivals j ↔ ConflictsWith p kept j) → (j : ℕ) → Contains sorted j ↔ ConflictsWith p kept j
+pub sorted_exact : (p : Priority) (kept rivals sorted : List ℕ) → IsSorted rivals sorted → ((j : ℕ) → Contains rivals j ↔ ConflictsWith p kept j) → (j : ℕ)
+    → Contains sorted j ↔ ConflictsWith p kept j
 sorted_exact p kept rivals sorted h exact j = ((λ m. (exact j).0 ((h.same j).0 m)), (λ w. (h.same j).1 ((exact j).1 w)))
 
 pub sorted_known : (bound : ℕ) (rivals sorted : List ℕ) → IsSorted rivals sorted → All (λ j. j < bound) rivals → All (λ j. j < bound) sorted
-sorted_known bound rivals sorted h known k d l = All-contains (λ j. j < bound) rivals (get_or sorted k d) known ((h.same (get_or sorted k d)).0 (Contains-get_or sorted k d l))
+sorted_known bound rivals sorted h known k d l = All-contains (λ j. j < bound) rivals (get_or sorted k d) known
+    ((h.same (get_or sorted k d)).0 (Contains-get_or sorted k d l))
 
 -- a kept fact that blocks, and that none does
-pub blocked_by : (p : Priority) (fact : ℕ) (kept blockers : List ℕ) (k : ℕ) → AreBlockers p fact blockers → k < length kept → Contains blockers (get_or kept k 0) → IsBlocked p (Contains kept) fact
+pub blocked_by : (p : Priority) (fact : ℕ) (kept blockers : List ℕ) (k : ℕ) → AreBlockers p fact blockers → k < length kept
+    → Contains blockers (get_or kept k 0) → IsBlocked p (Contains kept) fact
 blocked_by p fact kept blockers k b l c = let w = (b.exact (get_or kept k 0)).0 c in (get_or kept k 0, Contains-get_or kept k 0 l, w.0, w.1)
 
-pub blocked_by_none : (p : Priority) (fact : ℕ) (kept blockers : List ℕ) (k : ℕ) → AreBlockers p fact blockers → length kept ≤ k → ((m : ℕ) → m < k → ¬ Contains blockers (get_or kept m 0)) → ¬ IsBlocked p (Contains kept) fact
+pub blocked_by_none : (p : Priority) (fact : ℕ) (kept blockers : List ℕ) (k : ℕ) → AreBlockers p fact blockers → length kept ≤ k
+    → ((m : ℕ) → m < k → ¬ Contains blockers (get_or kept m 0)) → ¬ IsBlocked p (Contains kept) fact
 blocked_by_none p fact kept blockers k b l h (i, (m, n, e), c, better) =
     h m (omega arith) ((b.exact (get_or kept m 0)).1
     (subst (λ (x : ℕ). Conflict p fact x × ¬ IsBetter p fact x) (sym (get_or_default kept m 0 i n ∙ e)) (c, better)))
 
 -- the rivals of kept facts, each blocked, are the dropped facts of a core
-pub direct_found : (p : Priority) (kept dropped : List ℕ) → IsFree p (Contains kept) → IsAscending dropped → ((j : ℕ) → Contains dropped j ↔ ConflictsWith p kept j) → All (IsBlocked p (Contains kept)) dropped → IsDirect p kept dropped
+pub direct_found : (p : Priority) (kept dropped : List ℕ) → IsFree p (Contains kept) → IsAscending dropped
+    → ((j : ℕ) → Contains dropped j ↔ ConflictsWith p kept j) → All (IsBlocked p (Contains kept)) dropped → IsDirect p kept dropped
 direct_found p kept dropped free up h blocked = record {
   ascending = up;
   exact = h;
@@ -96,7 +105,8 @@ direct_found p kept dropped free up h blocked = record {
 }
 
 -- each dropped fact of a core is blocked, since none that conflicts is self-inconsistent
-pub core_blocks : (p : Priority) (kept dropped : List ℕ) → IsPriority p → ((j : ℕ) → Contains dropped j ↔ ConflictsWith p kept j) → IsCore p (Contains kept) (ConflictsWith p kept) → All (IsBlocked p (Contains kept)) dropped
+pub core_blocks : (p : Priority) (kept dropped : List ℕ) → IsPriority p → ((j : ℕ) → Contains dropped j ↔ ConflictsWith p kept j)
+    → IsCore p (Contains kept) (ConflictsWith p kept) → All (IsBlocked p (Contains kept)) dropped
 core_blocks p kept dropped priority h core k d l =
     let j = get_or dropped k d in
     let with' = (h j).0 (Contains-get_or dropped k d l) in
@@ -108,7 +118,8 @@ core_blocks p kept dropped priority h core k d l =
 -- both facts of a conflict are facts of the table
 pub conflict_below : (p : Priority) → IsPriority p → (i j : ℕ) → Conflict p i j → j < p.facts
 conflict_below p h i j (inl c) = (All-contains (λ (c : ℕ × ℕ). (c.0 < c.1) × (c.1 < p.facts)) p.couples (i, j) h.couples_known c).1
-conflict_below p h i j (inr c) = let w = All-contains (λ (c : ℕ × ℕ). (c.0 < c.1) × (c.1 < p.facts)) p.couples (j, i) h.couples_known c in omega (arith, w.0, w.1)
+conflict_below p h i j (inr c) = let w = All-contains (λ (c : ℕ × ℕ). (c.0 < c.1) × (c.1 < p.facts)) p.couples (j, i) h.couples_known c in
+    omega (arith, w.0, w.1)
 
 pub all_below : (p : Priority) → IsPriority p → (i : ℕ) (list : List ℕ) → ((j : ℕ) → Contains list j → Conflict p i j) → All (λ j. j < p.facts) list
 all_below p h i list c k d l = conflict_below p h i (get_or list k d) (c (get_or list k d) (Contains-get_or list k d l))

@@ -143,7 +143,8 @@ module _ (kb : Knowledge) (mode : Repairs) (p : Priority) (of : IsPriorityOf kb 
             (w.0, w.2, (conflict i w.0).1 w.3, λ better. w.4 ((of.better i w.0).0 better));
       }
 
-  core : (kept dropped : List ℕ) → IsCore p (Contains kept) (Contains dropped) ↔ (All (λ j. j < p.facts) dropped × cores.IsCore kb mode (has kept) (has dropped))
+  core : (kept dropped : List ℕ) → IsCore p (Contains kept) (Contains dropped)
+      ↔ (All (λ j. j < p.facts) dropped × cores.IsCore kb mode (has kept) (has dropped))
   core kept dropped = (to, from)
     where
       known : IsCore p (Contains kept) (Contains dropped) → (j : ℕ) → Contains dropped j → j < length kb.facts
@@ -158,7 +159,11 @@ module _ (kb : Knowledge) (mode : Repairs) (p : Priority) (of : IsPriorityOf kb 
       to h = (
         All-of (λ j. j < p.facts) dropped (λ j m. subst (λ n. j < n) (sym of.facts) (known h j m)),
         record {
-          consistent = (free (In (has kept))).0 (record { own = λ i t. h.free.own i (has_there kept i t); pairs = λ i j t u. h.free.pairs i j (has_there kept i t) (has_there kept j u) });
+          consistent = (free (In (has kept))).0 (record {
+            own = λ i t. h.free.own i (has_there kept i t);
+            pairs =
+                λ i j t u. h.free.pairs i j (has_there kept i t) (has_there kept j u);
+          });
           drops = λ i j il jl t w. has_true dropped j (h.drops i j (has_there kept i t) ((conflict i j).1 w));
           blocked = λ j jl t. blocked h j (h.blocked j (has_there dropped j t));
         },
@@ -166,7 +171,11 @@ module _ (kb : Knowledge) (mode : Repairs) (p : Priority) (of : IsPriorityOf kb 
 
       from : All (λ j. j < p.facts) dropped × cores.IsCore kb mode (has kept) (has dropped) → IsCore p (Contains kept) (Contains dropped)
       from (inside, h) = record {
-        free = let f = (free (In (has kept))).1 h.consistent in record { own = λ i m. f.own i (has_true kept i m); pairs = λ i j m k. f.pairs i j (has_true kept i m) (has_true kept j k) };
+        free = let f = (free (In (has kept))).1 h.consistent in record {
+          own = λ i m. f.own i (has_true kept i m);
+          pairs =
+              λ i j m k. f.pairs i j (has_true kept i m) (has_true kept j k);
+        };
         drops = λ i j m w. let c = (conflict i j).0 w in has_there dropped j (h.drops i j (Conflict-within kb i j c) (within i j c) (has_true kept i m) c);
         blocked = λ j m.
             let l : j < length kb.facts = subst (λ n. j < n) of.facts (All-contains (λ j. j < p.facts) dropped j inside m) in
@@ -192,9 +201,11 @@ module _ (kb : Knowledge) (mode : Repairs) (p : Priority) (of : IsPriorityOf kb 
   rivals kept j = ((λ w. (w.0, w.1, (conflict w.0 j).0 w.2)), (λ w. (w.0, w.1, (conflict w.0 j).1 w.2)))
 
   -- a core over the knowledge base that drops just what conflicts with the kept facts is one over the priority
-  as_direct : (kept dropped : List ℕ) → AreRivals kb kept dropped → cores.IsCore kb mode (has kept) (has dropped) → IsCore p (Contains kept) (ConflictsWith p kept)
+  as_direct : (kept dropped : List ℕ) → AreRivals kb kept dropped → cores.IsCore kb mode (has kept) (has dropped)
+      → IsCore p (Contains kept) (ConflictsWith p kept)
   as_direct kept dropped h c =
-      let inside : All (λ j. j < p.facts) dropped = All-of (λ j. j < p.facts) dropped (λ j m. let w = (h j).0 m in subst (λ n. j < n) (sym of.facts) (within w.0 j w.2)) in
+      let inside : All (λ j. j < p.facts) dropped = All-of (λ j. j < p.facts) dropped
+      (λ j m. let w = (h j).0 m in subst (λ n. j < n) (sym of.facts) (within w.0 j w.2)) in
       let d = (core kept dropped).1 (inside, c) in
       record { free = d.free; drops = λ i j m w. (i, m, w); blocked = λ j w. d.blocked j ((h j).1 ((rivals kept j).0 w)) }
 

@@ -1,5 +1,6 @@
 -- A decided acyclic relation on the numbers below a bound has an order of all of them.
-use Rattle.std.proofs.Common.{◌≡◌, ◌≢◌, ◌<◌, ◌≤◌, ◌+◌, ◌⊎◌, inl, inr, ℕ, zero, suc, List, [], ◌∷◌, ◌++◌, length, get_or, refl, sym, ap, subst, arith, Contains, All}
+use Rattle.std.proofs.Common.{◌≡◌, ◌≢◌, ◌<◌, ◌≤◌, ◌+◌, ◌⊎◌, inl, inr, ℕ, zero, suc, List, [], ◌∷◌, ◌++◌, length, get_or, refl, sym, ap, subst, arith}
+use Rattle.std.proofs.Common.{Contains, All}
 use Rattle.std.specs.List.{AllPairs}
 use Rattle.std.proofs.lemmas.Bool.{cases_eq}
 use Rattle.std.proofs.lemmas.List.{length_push}
@@ -47,10 +48,22 @@ module _ (n : ℕ) (R : ℕ → ℕ → Type 0) (within : (i j : ℕ) → R i j 
   -- where each that is left has one over it that is left, there are paths of any length
   grow : (placed : List ℕ) → ((i : ℕ) → IsLeft placed i → (j : ℕ) × IsLeft placed j × R j i) → (i : ℕ) → IsLeft placed i
       → (k : ℕ) → (j : ℕ) × (path : List ℕ) × IsLeft placed j × IsPath j path × (length path ≡ k)
-  grow placed each i f zero = (i, [], f, record { first = All-nil (Reaches i); down = λ a b d l m. absurd (omega arith); below = All-cons (λ j. j < n) i [] f.0 (All-nil (λ j. j < n)) }, refl)
+  grow placed each i f zero = (
+    i,
+    [],
+    f,
+    record {
+      first = All-nil (Reaches i);
+      down = λ a b d l m. absurd (omega arith);
+      below =
+          All-cons (λ j. j < n) i [] f.0 (All-nil (λ j. j < n));
+    },
+    refl,
+  )
   grow placed each i f (suc k) = more (grow placed each i f k)
     where
-      more : (j : ℕ) × (path : List ℕ) × IsLeft placed j × IsPath j path × (length path ≡ k) → (j : ℕ) × (path : List ℕ) × IsLeft placed j × IsPath j path × (length path ≡ suc k)
+      more : (j : ℕ) × (path : List ℕ) × IsLeft placed j × IsPath j path × (length path ≡ k) → (j : ℕ) × (path : List ℕ) × IsLeft placed j × IsPath j path
+          × (length path ≡ suc k)
       more (j, path, fj, p, l) = let b = each j fj in (
         b.0,
         j ∷ path,

@@ -1,8 +1,10 @@
 -- An order grows by the facts for which no better one is missing.
-use Rattle.std.proofs.Common.{◌≡◌, ◌≢◌, ◌<◌, ◌≤◌, ◌+◌, ◌-◌, ◌⊎◌, inl, inr, ◌↔◌, ◌&&◌, ℕ, zero, suc, Bool, true, false, not, cond, eqb, List, [], ◌∷◌, ◌++◌, length, take, get_or, refl, sym, ap, ◌∙◌, subst, arith, Contains, All}
+use Rattle.std.proofs.Common.{◌≡◌, ◌≢◌, ◌<◌, ◌≤◌, ◌+◌, ◌-◌, ◌⊎◌, inl, inr, ◌↔◌, ◌&&◌, ℕ, zero, suc, Bool, true, false, not, cond, eqb, List, [], ◌∷◌, ◌++◌}
+use Rattle.std.proofs.Common.{length, take, get_or, refl, sym, ap, ◌∙◌, subst, arith, Contains, All}
 use Rattle.std.specs.List.{filter, AllPairs}
 use Rattle.std.proofs.lemmas.Bool.{cases_eq, cases_lt, cases_Bool, eq-eqb, eqb-true, true≢false, and_from}
-use Rattle.std.proofs.lemmas.List.{take_more, take_all, take-append-le, length-append, get_or_append_left, get_or-append_right, get_or_default, get_or-take, length-take, length-take-le}
+use Rattle.std.proofs.lemmas.List.{take_more, take_all, take-append-le, length-append, get_or_append_left, get_or-append_right, get_or_default, get_or-take}
+use Rattle.std.proofs.lemmas.List.{length-take, length-take-le}
 use Rattle.std.proofs.lemmas.List.Elements.{All-append, All-contains, Contains-get_or, Contains-append_left, Contains-append_right, Contains-append_cases}
 use Rattle.std.proofs.lemmas.List.Kept.{AllPairs-filter}
 use Rattle.cq_terms.specs.Lists.{IsAscending}
@@ -25,14 +27,17 @@ Contains-take xs m n i le (k, l, e) =
     (k, omega (arith, length-take m xs, length-take n xs), get_or-take n xs k i (omega arith) ∙ sym (get_or-take m xs k i less) ∙ e)
 
 -- one who waits for a fact that isn't placed
-pub waits : (facts : ℕ) (lists : List (List ℕ)) (placed : List ℕ) (i fact : ℕ) → fact < facts → Contains (get_or lists fact []) i → ¬ Contains placed fact → waiting_for lists placed facts i ≢ 0
+pub waits : (facts : ℕ) (lists : List (List ℕ)) (placed : List ℕ) (i fact : ℕ) → fact < facts → Contains (get_or lists fact []) i → ¬ Contains placed fact
+    → waiting_for lists placed facts i ≢ 0
 waits facts lists placed i fact l in' absent none =
     let test = count_none (λ u. has (get_or lists u []) i && not (has placed u)) facts fact none l in
-    let yes : (has (get_or lists fact []) i && not (has placed fact)) ≡ true = and_from _ _ (has_true (get_or lists fact []) i in') (ap not (has_not placed fact absent)) in
+    let yes : (has (get_or lists fact []) i && not (has placed fact)) ≡ true =
+    and_from _ _ (has_true (get_or lists fact []) i in') (ap not (has_not placed fact absent)) in
     true≢false (sym yes ∙ test)
 
 -- one for whom a fact is missing
-pub waited : (facts : ℕ) (lists : List (List ℕ)) (placed : List ℕ) (i : ℕ) → waiting_for lists placed facts i ≢ 0 → (u : ℕ) × (u < facts) × Contains (get_or lists u []) i × ¬ Contains placed u
+pub waited : (facts : ℕ) (lists : List (List ℕ)) (placed : List ℕ) (i : ℕ) → waiting_for lists placed facts i ≢ 0 → (u : ℕ) × (u < facts)
+    × Contains (get_or lists u []) i × ¬ Contains placed u
 waited facts lists placed i some =
     let w = count_some (λ u. has (get_or lists u []) i && not (has placed u)) facts some in
     (w.0, w.1, has_there (get_or lists w.0 []) i (left _ _ w.2), λ there. true≢false (sym (has_true placed w.0 there) ∙ right _ _ w.2))
@@ -70,12 +75,14 @@ waiting_less facts lists placed fact i l absent = by (has (get_or lists fact [])
         (ap (λ (b : Bool). has (get_or lists fact []) i && not b) (has-push_same placed fact) ∙ and_false (has (get_or lists fact []) i))
         same
     by false is = count_agree old new facts (λ u m. elim (cases_eq fact u) [
-      | inl s ↦ subst (λ (k : ℕ). old k ≡ new k) s (ap (λ (b : Bool). b && not (has placed fact)) is ∙ sym (ap (λ (b : Bool). b && not (has (placed ++ fact ∷ []) fact)) is))
+      | inl s ↦ subst (λ (k : ℕ). old k ≡ new k) s (ap (λ (b : Bool). b && not (has placed fact)) is
+          ∙ sym (ap (λ (b : Bool). b && not (has (placed ++ fact ∷ []) fact)) is))
       | inr n ↦ same u n
     ]) ∙ omega arith
 
 -- the facts for which none is missing begin the order
-pub placing_none : (facts : ℕ) (lists : List (List ℕ)) (order counts : List ℕ) → AreWaiting facts lists [] facts counts → AreZeros counts order → IsPlacing facts lists order counts 0
+pub placing_none : (facts : ℕ) (lists : List (List ℕ)) (order counts : List ℕ) → AreWaiting facts lists [] facts counts → AreZeros counts order
+    → IsPlacing facts lists order counts 0
 placing_none facts lists order counts w z = record {
   within = omega arith;
   ordered = record {
@@ -83,13 +90,15 @@ placing_none facts lists order counts w z = record {
     once = λ i j d less l e. let up = z.ascending i j d less l in omega arith;
     behind = λ k i l m in'.
         let there = (z.exact (get_or order k 0)).0 (Contains-get_or order k 0 l) in
-        absurd (waits facts lists [] (get_or order k 0) i m in' (λ (n, o, e). omega arith) (sym (w.exact (get_or order k 0) (omega (arith, there.0, w.all))) ∙ there.1));
+        absurd (waits facts lists [] (get_or order k 0) i m in' (λ (n, o, e). omega arith)
+        (sym (w.exact (get_or order k 0) (omega (arith, there.0, w.all))) ∙ there.1));
   };
   waiting = w;
   placed = λ i l. ((λ c. ((z.exact i).0 c).1), (λ e. (z.exact i).1 (omega (arith, w.all), e)));
 }
 
-module _ (facts : ℕ) (lists : List (List ℕ)) (order counts : List ℕ) (next : ℕ) (ls : AreLists facts lists) (h : IsPlacing facts lists order counts next) (within : next < length order) where
+module _ (facts : ℕ) (lists : List (List ℕ)) (order counts : List ℕ) (next : ℕ) (ls : AreLists facts lists) (h : IsPlacing facts lists order counts next)
+    (within : next < length order) where
   abbrev fact : ℕ
   fact = get_or order next 0
 
@@ -172,7 +181,8 @@ module _ (facts : ℕ) (lists : List (List ℕ)) (order counts : List ℕ) (next
           by true is =
               let had = adds.exact i (omega (arith, adds.all, h.waiting.all)) ∙ ap (λ (b : Bool). get_or new i 0 + cond b 1 0) is in
               let one : get_or counts i 0 ≡ 1 = omega (arith, had) in
-              Contains-append_right order last i (Contains-filter_to (λ i. eqb (get_or counts i 0) 1) (get_or lists fact []) i (has_there (get_or lists fact []) i is) (eq-eqb (get_or counts i 0) 1 one))
+              Contains-append_right order last i (Contains-filter_to (λ i. eqb (get_or counts i 0) 1) (get_or lists fact []) i
+              (has_there (get_or lists fact []) i is) (eq-eqb (get_or counts i 0) 1 one))
           by false is =
               let had = adds.exact i (omega (arith, adds.all, h.waiting.all)) ∙ ap (λ (b : Bool). get_or new i 0 + cond b 1 0) is in
               Contains-append_left order last i ((h.placed i l).1 (omega (arith, had)))
@@ -188,8 +198,10 @@ module _ (facts : ℕ) (lists : List (List ℕ)) (order counts : List ℕ) (next
           by (inl a) (inr b) e =
               let x = get_or order i d in
               let there : Contains order x = Contains-get_or order i d a in
-              let same : x ≡ get_or last (j - length order) d = sym (get_or_append_left order last d i a) ∙ e ∙ get_or-append_right order last (length order) j d refl b in
-              let new' : Contains last x = subst (Contains last) (sym same) (Contains-get_or last (j - length order) d (omega (arith, length-append order last))) in
+              let same : x ≡ get_or last (j - length order) d = sym (get_or_append_left order last d i a) ∙ e
+              ∙ get_or-append_right order last (length order) j d refl b in
+              let new' : Contains last x = subst (Contains last) (sym same)
+              (Contains-get_or last (j - length order) d (omega (arith, length-append order last))) in
               let none = (h.placed x (last_known x new')).0 there in
               omega (arith, none, (last_had x new').1)
           by (inr a) (inl b) e = omega arith
@@ -203,24 +215,30 @@ module _ (facts : ℕ) (lists : List (List ℕ)) (order counts : List ℕ) (next
           subst (λ (xs : List ℕ). Contains xs i) (sym (take-append-le k order last (omega arith)))
           (h.ordered.behind k i less m (subst (λ (n : ℕ). Contains (get_or lists i []) n) (get_or_append_left order last 0 k less) in'))
 
-      behind_new : (k i : ℕ) → length order ≤ k → k < length (order ++ last) → i < facts → Contains (get_or lists i []) (get_or (order ++ last) k 0) → Contains (take k (order ++ last)) i
+      behind_new : (k i : ℕ) → length order ≤ k → k < length (order ++ last) → i < facts → Contains (get_or lists i []) (get_or (order ++ last) k 0)
+          → Contains (take k (order ++ last)) i
       behind_new k i more l m in' =
           let x = get_or (order ++ last) k 0 in
-          let there : Contains last x = subst (Contains last) (sym (get_or-append_right order last (length order) k 0 refl more)) (Contains-get_or last (k - length order) 0 (omega (arith, length-append order last))) in
+          let there : Contains last x = subst (Contains last) (sym (get_or-append_right order last (length order) k 0 refl more))
+          (Contains-get_or last (k - length order) 0 (omega (arith, length-append order last))) in
           let low : x < facts = last_known x there in
-          let none : waiting_for lists (take (next + 1) (order ++ last)) facts x ≡ 0 = sym (waits_now x low) ∙ to x low (Contains-append_right order last x there) in
+          let none : waiting_for lists (take (next + 1) (order ++ last)) facts x ≡ 0 =
+          sym (waits_now x low) ∙ to x low (Contains-append_right order last x there) in
           stays (cases_Bool (has (take (next + 1) (order ++ last)) i)) none
         where
-          stays : (has (take (next + 1) (order ++ last)) i ≡ true) ⊎ (has (take (next + 1) (order ++ last)) i ≡ false) → waiting_for lists (take (next + 1) (order ++ last)) facts (get_or (order ++ last) k 0) ≡ 0 → Contains (take k (order ++ last)) i
+          stays : (has (take (next + 1) (order ++ last)) i ≡ true) ⊎ (has (take (next + 1) (order ++ last)) i ≡ false)
+              → waiting_for lists (take (next + 1) (order ++ last)) facts (get_or (order ++ last) k 0) ≡ 0 → Contains (take k (order ++ last)) i
           stays (inl t) none = Contains-take (order ++ last) (next + 1) k i (omega arith) (has_there (take (next + 1) (order ++ last)) i t)
-          stays (inr f) none = absurd (waits facts lists (take (next + 1) (order ++ last)) (get_or (order ++ last) k 0) i m in' (λ c. true≢false (sym (has_true (take (next + 1) (order ++ last)) i c) ∙ f)) none)
+          stays (inr f) none = absurd (waits facts lists (take (next + 1) (order ++ last)) (get_or (order ++ last) k 0) i m in'
+              (λ c. true≢false (sym (has_true (take (next + 1) (order ++ last)) i c) ∙ f)) none)
 
   -- there is room for the next fact
   pub next_inside : next < facts
   next_inside = omega (arith, distinct_length facts order h.ordered.once h.ordered.known)
 
 -- the order is done where each of its facts counts as placed
-pub placing_all : (facts : ℕ) (lists : List (List ℕ)) (order counts : List ℕ) (next : ℕ) → IsPlacing facts lists order counts next → length order ≤ next → IsPlaced facts lists order counts
+pub placing_all : (facts : ℕ) (lists : List (List ℕ)) (order counts : List ℕ) (next : ℕ) → IsPlacing facts lists order counts next → length order ≤ next
+    → IsPlaced facts lists order counts
 placing_all facts lists order counts next h done = record {
   ordered = h.ordered;
   waiting = rw (take_all next order done) at h.waiting;

@@ -1,5 +1,6 @@
 -- From the lists and the order to the priority, and from the parents to the cycle.
-use Rattle.std.proofs.Common.{◌≡◌, ◌<◌, ◌+◌, ◌⊎◌, inl, inr, ◌↔◌, ℕ, zero, suc, List, [], ◌∷◌, length, map, take, get_or, sym, ap, ◌∙◌, subst, arith, Contains, All}
+use Rattle.std.proofs.Common.{◌≡◌, ◌<◌, ◌+◌, ◌⊎◌, inl, inr, ◌↔◌, ℕ, zero, suc, List, [], ◌∷◌, length, map, take, get_or, sym, ap, ◌∙◌, subst, arith, Contains}
+use Rattle.std.proofs.Common.{All}
 use Rattle.std.specs.List.{cons_option}
 use Rattle.std.proofs.lemmas.List.{get_or_default, get_or-take, length-take}
 use Rattle.std.proofs.lemmas.List.Elements.{All-nil, All-cons, All-tail, All-contains, Contains-append_left, Contains-append_right, Contains-append_cases}
@@ -16,9 +17,11 @@ use Rattle.priority_graph.specs.Walks.{IsLeft, AreParents, IsParent, AreClosed}
 use Rattle.priority_graph.proofs.OrderLemmas.{Contains-take, waited}
 
 -- a pair of the lists stands in the list of its upper fact
-pub pairs_there : (n : ℕ) (lists : List (List ℕ)) (p : Pair) → Contains (pairs_from n lists) p → (k : ℕ) × (k < length lists) × (p.upper ≡ n + k) × Contains (get_or lists k []) p.lower
+pub pairs_there : (n : ℕ) (lists : List (List ℕ)) (p : Pair) → Contains (pairs_from n lists) p → (k : ℕ) × (k < length lists) × (p.upper ≡ n + k)
+    × Contains (get_or lists k []) p.lower
 pairs_there n [] p (k, l, e) = absurd (omega arith)
-pairs_there n (list ∷ lists) p h = by (Contains-append_cases (map (λ j. record { upper = n; lower = j }) list) (pairs_from (suc n) lists) p h) (λ m. pairs_there (suc n) lists p m)
+pairs_there n (list ∷ lists) p h = by (Contains-append_cases (map (λ j. record { upper = n; lower = j }) list) (pairs_from (suc n) lists) p h)
+    (λ m. pairs_there (suc n) lists p m)
   where
     here : (xs : List ℕ) → Contains (map (λ j. record { upper = n; lower = j }) xs) p → (p.upper ≡ n) × Contains xs p.lower
     here [] (k, l, e) = absurd (omega arith)
@@ -91,7 +94,8 @@ module _ (facts : ℕ) (lists : List (List ℕ)) (order : List ℕ) (R : ℕ →
         let same : get_or order a d ≡ get_or order a 0 = get_or_default order a d 0 (omega arith) in
         let m = o.behind a (get_or order b d) (omega arith) t.0 (subst (Contains (get_or lists (get_or order b d) [])) same t.1) in
         let before : m.0 < a = omega (arith, m.1, length-take a order) in
-        o.once m.0 b (get_or order b d) (omega arith) l (sym (get_or-take a order m.0 (get_or order b d) before) ∙ m.2 ∙ get_or_default order b d (get_or order b d) l);
+        o.once m.0 b (get_or order b d) (omega arith) l (sym (get_or-take a order m.0 (get_or order b d) before) ∙ m.2
+        ∙ get_or_default order b d (get_or order b d) l);
   }
 
 -- a chain of one relation is one of a wider relation
@@ -124,7 +128,8 @@ own_below facts (c ∷ clashes) h = by c.facts (h 0 c (omega arith)) (own_below 
     by (i ∷ j ∷ []) o t = t
     by (i ∷ j ∷ l ∷ more) o t = absurd o
 
-module _ (pairs : List Pair) (g : ConflictGraph) (worse blockers : List (List ℕ)) (named : All (λ p. (p.upper < g.facts) × (p.lower < g.facts)) pairs) (parted : AreParted pairs g worse blockers) where
+module _ (pairs : List Pair) (g : ConflictGraph) (worse blockers : List (List ℕ)) (named : All (λ p. (p.upper < g.facts) × (p.lower < g.facts)) pairs)
+    (parted : AreParted pairs g worse blockers) where
   pub lists_of : AreLists g.facts worse
   lists_of = record { all = parted.worse_all; ascending = λ i l. (parted.exact i l).worse_ascending; known = parted.known }
 
@@ -151,7 +156,8 @@ module _ (pairs : List Pair) (g : ConflictGraph) (worse blockers : List (List �
       from r =
           let t = told i j r in
           let same : 0 + i ≡ i = omega arith in
-          subst (λ (n : ℕ). Contains (pairs_from 0 worse) (record { upper = n; lower = j })) same (there_pairs 0 worse i j (omega (arith, t.0, parted.worse_all)) t.1)
+          subst (λ (n : ℕ). Contains (pairs_from 0 worse) (record { upper = n; lower = j })) same
+          (there_pairs 0 worse i j (omega (arith, t.0, parted.worse_all)) t.1)
 
   module _ (order counts : List ℕ) (placed : IsPlaced g.facts worse order counts) where
     module _ (none : All (λ n. n ≡ 0) counts) where
@@ -175,7 +181,10 @@ module _ (pairs : List Pair) (g : ConflictGraph) (worse blockers : List (List �
         };
         worse_all = parted.worse_all;
         worse_ascending = λ i l. (parted.exact i l).worse_ascending;
-        worse_exact = λ i j l. ((λ c. (better_ranks i j).1 (((parted.exact i l).worse_exact j).0 c)), (λ b. ((parted.exact i l).worse_exact j).1 ((better_ranks i j).0 b)));
+        worse_exact = λ i j l. (
+          (λ c. (better_ranks i j).1 (((parted.exact i l).worse_exact j).0 c)),
+          (λ b. ((parted.exact i l).worse_exact j).1 ((better_ranks i j).0 b)),
+        );
         blockers_all = parted.blockers_all;
         blockers_exact = λ i l. record {
           ascending = (parted.exact i l).blockers_ascending;

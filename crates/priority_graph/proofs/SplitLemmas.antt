@@ -1,9 +1,11 @@
 -- The conflicts of one more fact, parted by whether its list has them.
-use Rattle.std.proofs.Common.{◌≡◌, ◌<◌, ◌≤◌, ◌^◌, ◌+◌, ◌⊎◌, inl, inr, ◌↔◌, ℕ, zero, suc, Bool, true, false, not, cond, eqb, ltb, List, [], ◌∷◌, ◌++◌, length, map, get_or, refl, sym, ap, ◌∙◌, subst, arith, Contains, All}
+use Rattle.std.proofs.Common.{◌≡◌, ◌<◌, ◌≤◌, ◌^◌, ◌+◌, ◌⊎◌, inl, inr, ◌↔◌, ℕ, zero, suc, Bool, true, false, not, cond, eqb, ltb, List, [], ◌∷◌, ◌++◌, length}
+use Rattle.std.proofs.Common.{map, get_or, refl, sym, ap, ◌∙◌, subst, arith, Contains, All}
 use Rattle.std.specs.List.{filter}
 use Rattle.std.proofs.lemmas.Bool.{cases_eq, cases_lt, cases_Bool, eq-eqb, ne_eqb, lt-ltb, le-ltb, true≢false, not-true, not_from_false}
 use Rattle.std.proofs.lemmas.List.{append-nil, map-append, length-append, length-map}
-use Rattle.std.proofs.lemmas.List.Elements.{All-nil, All-head, All-tail, All-append, All-weaker, All-map, All-from_get_or, All-contains, All-filter, Contains-get_or, filter-append}
+use Rattle.std.proofs.lemmas.List.Elements.{All-nil, All-head, All-tail, All-append, All-weaker, All-map, All-from_get_or, All-contains, All-filter}
+use Rattle.std.proofs.lemmas.List.Elements.{Contains-get_or, filter-append}
 use Rattle.std.proofs.lemmas.List.Folds.{list_any_at}
 use Rattle.std.proofs.lemmas.List.Kept.{AllPairs-filter}
 use Rattle.cq_terms.specs.declared.facts.Pair.{Pair}
@@ -51,7 +53,8 @@ Contains-filter_from p (x ∷ xs) j h = by (p x) refl h (λ m. Contains-filter_f
     later : Contains xs j × (p j ≡ true) → Contains (x ∷ xs) j × (p j ≡ true)
     later ((i, m, f), t) = ((suc i, omega arith, f), t)
 
-    by : (b : Bool) → p x ≡ b → Contains (cond b (x ∷ filter p xs) (filter p xs)) j → (Contains (filter p xs) j → Contains xs j × (p j ≡ true)) → Contains (x ∷ xs) j × (p j ≡ true)
+    by : (b : Bool) → p x ≡ b → Contains (cond b (x ∷ filter p xs) (filter p xs)) j → (Contains (filter p xs) j → Contains xs j × (p j ≡ true))
+        → Contains (x ∷ xs) j × (p j ≡ true)
     by true is (zero, l, e) again = ((0, omega arith, e), subst (λ (n : ℕ). p n ≡ true) e is)
     by true is (suc k, l, e) again = later (again (k, omega arith, e))
     by false is m again = later (again m)
@@ -65,13 +68,15 @@ length-filter_both p [] = omega arith
 length-filter_both p (x ∷ xs) = by (p x) (length-filter_both p xs)
   where
     by : (b : Bool) → length (filter p xs) + length (filter (λ x. not (p x)) xs) ≡ length xs
-        → length (cond b (x ∷ filter p xs) (filter p xs)) + length (cond (not b) (x ∷ filter (λ x. not (p x)) xs) (filter (λ x. not (p x)) xs)) ≡ suc (length xs)
+        → length (cond b (x ∷ filter p xs) (filter p xs)) + length (cond (not b) (x ∷ filter (λ x. not (p x)) xs) (filter (λ x. not (p x)) xs))
+        ≡ suc (length xs)
     by true h = omega arith
     by false h = omega arith
 
 -- the values of joined entries
 values_at-append : (xs ys : List KeyedNumber) (i : ℕ) → values_at (xs ++ ys) i ≡ values_at xs i ++ values_at ys i
-values_at-append xs ys i = ap (map (λ (e : KeyedNumber). e.value)) (filter-append (λ (e : KeyedNumber). eqb e.key i) xs ys) ∙ map-append (λ (e : KeyedNumber). e.value) _ _
+values_at-append xs ys i = ap (map (λ (e : KeyedNumber). e.value)) (filter-append (λ (e : KeyedNumber). eqb e.key i) xs ys)
+    ∙ map-append (λ (e : KeyedNumber). e.value) _ _
 
 -- the entries of a fact are those of its list, and of no other
 values_at-same : (fact : ℕ) (xs : List ℕ) → values_at (map (λ j. record { key = fact; value = j }) xs) fact ≡ xs
@@ -90,7 +95,8 @@ values_at-past bound i (e ∷ xs) h past =
     rw (ne_eqb e.key i other) (values_at-past bound i xs (All-tail (λ (x : KeyedNumber). x.key < bound) e xs h) past)
 
 -- how many entries have keys below a bound
-count_below : (bound : ℕ) (es : List KeyedNumber) → length (filter (λ e. ltb e.key (bound + 1)) es) ≡ length (filter (λ e. ltb e.key bound) es) + length (values_at es bound)
+count_below : (bound : ℕ) (es : List KeyedNumber) → length (filter (λ e. ltb e.key (bound + 1)) es)
+    ≡ length (filter (λ e. ltb e.key bound) es) + length (values_at es bound)
 count_below bound [] = omega arith
 count_below bound (e ∷ es) = by (cases_lt e.key bound) (cases_eq e.key bound) (count_below bound es)
   where
@@ -141,22 +147,37 @@ pub split_more : (g : ConflictGraph) (listed : List (List ℕ)) (fact : ℕ) (wo
     → AreSplitEntries g listed fact worse blockers → HasRivals g fact list → ((j : ℕ) → j < g.facts → test j ≡ has (get_or listed fact []) j)
     → AreSplitEntries g listed (fact + 1) (worse ++ entries_of fact test list) (blockers ++ entries_of fact (λ j. not (test j)) list)
 split_more g listed fact worse blockers test list h r same = record {
-  worse_exact = λ i l. at worse (has (get_or listed i [])) i test (h.worse_known) l (h.worse_exact i) (λ e. subst (λ (k : ℕ). filter test list ≡ filter (has (get_or listed k [])) (rivals g.clashes k)) e here);
-  blockers_exact = λ i l. at blockers (λ j. not (has (get_or listed i []) j)) i (λ j. not (test j)) (h.blockers_known) l (h.blockers_exact i) (λ e. subst (λ (k : ℕ). filter (λ j. not (test j)) list ≡ filter (λ j. not (has (get_or listed k []) j)) (rivals g.clashes k)) e there);
+  worse_exact = λ i l. at worse (has (get_or listed i [])) i test (h.worse_known) l (h.worse_exact i)
+      (λ e. subst (λ (k : ℕ). filter test list ≡ filter (has (get_or listed k [])) (rivals g.clashes k)) e here);
+  blockers_exact = λ i l. at blockers (λ j. not (has (get_or listed i []) j)) i (λ j. not (test j)) (h.blockers_known) l (h.blockers_exact i)
+      (λ e. subst (λ (k : ℕ). filter (λ j. not (test j)) list ≡ filter (λ j. not (has (get_or listed k []) j)) (rivals g.clashes k)) e there);
   worse_known = known worse test h.worse_known;
   blockers_known = known blockers (λ j. not (test j)) h.blockers_known;
   count = count;
   few = omega (arith, count, length-filter-le (λ e. ltb e.key (fact + 1)) (conflict_entries g.clashes), r.few);
-  rivals_ascending = λ i l. elim (cases_eq i fact) [ inl e ↦ subst (λ (k : ℕ). IsAscending (rivals g.clashes k)) (sym e) (subst IsAscending r.are r.ascending) | inr n ↦ h.rivals_ascending i (omega arith) ];
-  rivals_known = λ i l. elim (cases_eq i fact) [ inl e ↦ subst (λ (k : ℕ). All (λ j. j < g.facts) (rivals g.clashes k)) (sym e) (subst (All (λ j. j < g.facts)) r.are r.known) | inr n ↦ h.rivals_known i (omega arith) ];
-  rivals_exact = λ i j l. elim (cases_eq i fact) [ inl e ↦ subst (λ (k : ℕ). Contains (rivals g.clashes k) j ↔ AreInConflict g.clashes k j) (sym e) (subst (λ (xs : List ℕ). Contains xs j ↔ AreInConflict g.clashes fact j) r.are (r.exact j)) | inr n ↦ h.rivals_exact i j (omega arith) ];
+  rivals_ascending = λ i l. elim (cases_eq i fact) [
+    | inl e ↦ subst (λ (k : ℕ). IsAscending (rivals g.clashes k)) (sym e) (subst IsAscending r.are r.ascending)
+    | inr n ↦ h.rivals_ascending i (omega arith)
+  ];
+  rivals_known = λ i l. elim (cases_eq i fact) [
+    | inl e ↦ subst (λ (k : ℕ). All (λ j. j < g.facts) (rivals g.clashes k)) (sym e)
+        (subst (All (λ j. j < g.facts)) r.are r.known)
+    | inr n ↦ h.rivals_known i (omega arith)
+  ];
+  rivals_exact = λ i j l. elim (cases_eq i fact) [
+    | inl e ↦ subst (λ (k : ℕ). Contains (rivals g.clashes k) j ↔ AreInConflict g.clashes k j) (sym e)
+        (subst (λ (xs : List ℕ). Contains xs j ↔ AreInConflict g.clashes fact j) r.are (r.exact j))
+    | inr n ↦ h.rivals_exact i j (omega arith)
+  ];
 }
   where
     here : filter test list ≡ filter (has (get_or listed fact [])) (rivals g.clashes fact)
-    here = filter_within test (has (get_or listed fact [])) list (λ k d l. same (get_or list k d) (r.known k d l)) ∙ ap (filter (has (get_or listed fact []))) r.are
+    here = filter_within test (has (get_or listed fact [])) list (λ k d l. same (get_or list k d) (r.known k d l))
+        ∙ ap (filter (has (get_or listed fact []))) r.are
 
     there : filter (λ j. not (test j)) list ≡ filter (λ j. not (has (get_or listed fact []) j)) (rivals g.clashes fact)
-    there = filter_within (λ j. not (test j)) (λ j. not (has (get_or listed fact []) j)) list (λ k d l. ap not (same (get_or list k d) (r.known k d l))) ∙ ap (filter (λ j. not (has (get_or listed fact []) j))) r.are
+    there = filter_within (λ j. not (test j)) (λ j. not (has (get_or listed fact []) j)) list (λ k d l. ap not (same (get_or list k d) (r.known k d l)))
+        ∙ ap (filter (λ j. not (has (get_or listed fact []) j))) r.are
 
     at : (old : List KeyedNumber) (wanted : ℕ → Bool) (i : ℕ) (p : ℕ → Bool) → HaveKeysBelow fact old → i < fact + 1
         → (i < fact → values_at old i ≡ filter wanted (rivals g.clashes i)) → (fact ≡ i → filter p list ≡ filter wanted (rivals g.clashes i))
@@ -181,18 +202,21 @@ split_more g listed fact worse blockers test list h r same = record {
         (All-weaker (λ (e : KeyedNumber). e.key < fact) (λ (e : KeyedNumber). e.key < fact + 1) (λ e l. omega arith) old below)
         (All-map (λ (e : KeyedNumber). e.key < fact + 1) (λ (j : ℕ). record { key = fact; value = j }) (filter p list) (λ k d l. omega arith))
 
-    count : length (worse ++ entries_of fact test list) + length (blockers ++ entries_of fact (λ j. not (test j)) list) ≡ length (filter (λ e. ltb e.key (fact + 1)) (conflict_entries g.clashes))
+    count : length (worse ++ entries_of fact test list) + length (blockers ++ entries_of fact (λ j. not (test j)) list)
+        ≡ length (filter (λ e. ltb e.key (fact + 1)) (conflict_entries g.clashes))
     count =
         let w = length-append worse (entries_of fact test list) in
         let b = length-append blockers (entries_of fact (λ j. not (test j)) list) in
         let wm : length (entries_of fact test list) ≡ length (filter test list) = length-map (filter test list) (λ (j : ℕ). record { key = fact; value = j }) in
-        let bm : length (entries_of fact (λ j. not (test j)) list) ≡ length (filter (λ j. not (test j)) list) = length-map (filter (λ j. not (test j)) list) (λ (j : ℕ). record { key = fact; value = j }) in
+        let bm : length (entries_of fact (λ j. not (test j)) list) ≡ length (filter (λ j. not (test j)) list) =
+        length-map (filter (λ j. not (test j)) list) (λ (j : ℕ). record { key = fact; value = j }) in
         let both = length-filter_both test list in
         let all = ap length r.are in
         omega (arith, w, b, wm, bm, both, all, h.count, count_below fact (conflict_entries g.clashes))
 
 -- a mark tells whether the list of the fact has a number
-pub mark_tells : (marks new list : List ℕ) (fact : ℕ) → SetsEach marks new list (fact + 1) → All (λ mark. mark ≤ fact) marks → (j : ℕ) → j < length marks → eqb (get_or new j 0) (fact + 1) ≡ has list j
+pub mark_tells : (marks new list : List ℕ) (fact : ℕ) → SetsEach marks new list (fact + 1) → All (λ mark. mark ≤ fact) marks → (j : ℕ) → j < length marks
+    → eqb (get_or new j 0) (fact + 1) ≡ has list j
 mark_tells marks new list fact set older j l = by (has list j) (set.exact j l)
   where
     by : (b : Bool) → get_or new j 0 ≡ cond b (fact + 1) (get_or marks j 0) → eqb (get_or new j 0) (fact + 1) ≡ b
@@ -200,7 +224,8 @@ mark_tells marks new list fact set older j l = by (has list j) (set.exact j l)
     by false e = ne_eqb _ _ (λ s. let old : get_or marks j 0 ≤ fact = older j 0 l in omega arith)
 
 -- no mark is past that of the fact
-pub marks_older : (marks new list : List ℕ) (fact : ℕ) → SetsEach marks new list (fact + 1) → All (λ mark. mark ≤ fact) marks → All (λ mark. mark ≤ fact + 1) new
+pub marks_older : (marks new list : List ℕ) (fact : ℕ) → SetsEach marks new list (fact + 1) → All (λ mark. mark ≤ fact) marks
+    → All (λ mark. mark ≤ fact + 1) new
 marks_older marks new list fact set older =
     All-from_get_or (λ mark. mark ≤ fact + 1) new 0 (λ j l. let k : j < length marks = omega (arith, set.all) in by j k (has list j) (set.exact j k))
   where
@@ -232,7 +257,8 @@ there_listed (p ∷ pairs) i j (zero, l, e) =
 there_listed (p ∷ pairs) i j (suc k, l, e) = by (eqb p.upper i) (there_listed pairs i j (k, omega arith, e))
   where
     by : (b : Bool) → Contains (values_at (pair_entries pairs) i) j
-        → Contains (map (λ e. e.value) (cond b (record { key = p.upper; value = p.lower } ∷ filter (λ e. eqb e.key i) (pair_entries pairs)) (filter (λ e. eqb e.key i) (pair_entries pairs)))) j
+        → Contains (map (λ e. e.value) (cond b (record { key = p.upper; value = p.lower } ∷ filter (λ e. eqb e.key i) (pair_entries pairs))
+        (filter (λ e. eqb e.key i) (pair_entries pairs)))) j
     by true (m, n, f) = (suc m, omega arith, f)
     by false h = h
 
@@ -240,11 +266,13 @@ there_listed (p ∷ pairs) i j (suc k, l, e) = by (eqb p.upper i) (there_listed 
 pub pairs_known : (facts : ℕ) (pairs : List Pair) → All (λ p. (p.upper < facts) × (p.lower < facts)) pairs → HaveKeysBelow facts (pair_entries pairs)
 pairs_known facts pairs h = All-map (λ (e : KeyedNumber). e.key < facts) (λ (p : Pair). record { key = p.upper; value = p.lower }) pairs (λ k d l. (h k d l).0)
 
-pub lists_known : (facts : ℕ) (pairs : List Pair) (lists : List (List ℕ)) → All (λ p. (p.upper < facts) × (p.lower < facts)) pairs → AreGrouped (pair_entries pairs) facts lists
+pub lists_known : (facts : ℕ) (pairs : List Pair) (lists : List (List ℕ)) → All (λ p. (p.upper < facts) × (p.lower < facts)) pairs
+    → AreGrouped (pair_entries pairs) facts lists
     → All (λ list. All (λ j. j < facts) list) lists
 lists_known facts pairs lists h g = All-from_get_or (λ list. All (λ j. j < facts) list) lists [] (λ i l.
     rw (g.exact i (omega (arith, g.all))) (λ k d m.
-    let there : IsListed pairs i (get_or (values_at (pair_entries pairs) i) k d) = listed_there pairs i _ (Contains-get_or (values_at (pair_entries pairs) i) k d m) in
+    let there : IsListed pairs i (get_or (values_at (pair_entries pairs) i) k d) =
+    listed_there pairs i _ (Contains-get_or (values_at (pair_entries pairs) i) k d m) in
     (All-contains (λ (p : Pair). (p.upper < facts) × (p.lower < facts)) pairs _ h there).1))
 
 -- the lists of worse facts and of blockers
@@ -256,9 +284,11 @@ parted_from pairs g listed worse blockers worse_entries blocker_entries l s w b 
   blockers_all = b.all;
   known = λ i k. rw (w.exact i k ∙ s.worse_exact i k) (All-filter (has (get_or listed i [])) (λ j. j < g.facts) (rivals g.clashes i) (s.rivals_known i k));
   exact = λ i k. record {
-    worse_ascending = rw (w.exact i k ∙ s.worse_exact i k) (AllPairs-filter (λ x y. x < y) (has (get_or listed i [])) (rivals g.clashes i) (s.rivals_ascending i k));
+    worse_ascending = rw (w.exact i k ∙ s.worse_exact i k) (AllPairs-filter (λ x y. x < y) (has (get_or listed i [])) (rivals g.clashes i)
+        (s.rivals_ascending i k));
     worse_exact = λ j. rw (w.exact i k ∙ s.worse_exact i k) (to_worse i j k, from_worse i j k);
-    blockers_ascending = rw (b.exact i k ∙ s.blockers_exact i k) (AllPairs-filter (λ x y. x < y) (λ j. not (has (get_or listed i []) j)) (rivals g.clashes i) (s.rivals_ascending i k));
+    blockers_ascending = rw (b.exact i k ∙ s.blockers_exact i k)
+        (AllPairs-filter (λ x y. x < y) (λ j. not (has (get_or listed i []) j)) (rivals g.clashes i) (s.rivals_ascending i k));
     blockers_exact = λ j. rw (b.exact i k ∙ s.blockers_exact i k) (to_blocker i j k, from_blocker i j k);
   };
 }
@@ -277,12 +307,14 @@ parted_from pairs g listed worse blockers worse_entries blocker_entries l s w b 
     from_worse : (i j : ℕ) → i < g.facts → Ranks pairs g i j → Contains (filter (has (get_or listed i [])) (rivals g.clashes i)) j
     from_worse i j k r = Contains-filter_to (has (get_or listed i [])) (rivals g.clashes i) j ((s.rivals_exact i j k).1 r.1) ((told i j k).1 r.0)
 
-    to_blocker : (i j : ℕ) → i < g.facts → Contains (filter (λ j. not (has (get_or listed i []) j)) (rivals g.clashes i)) j → AreInConflict g.clashes i j × ¬ Ranks pairs g i j
+    to_blocker : (i j : ℕ) → i < g.facts → Contains (filter (λ j. not (has (get_or listed i []) j)) (rivals g.clashes i)) j → AreInConflict g.clashes i j
+        × ¬ Ranks pairs g i j
     to_blocker i j k h =
         let m = Contains-filter_from (λ j. not (has (get_or listed i []) j)) (rivals g.clashes i) j h in
         ((s.rivals_exact i j k).0 m.0, λ r. true≢false (sym ((told i j k).1 r.0) ∙ not-true _ m.1))
 
-    from_blocker : (i j : ℕ) → i < g.facts → AreInConflict g.clashes i j × ¬ Ranks pairs g i j → Contains (filter (λ j. not (has (get_or listed i []) j)) (rivals g.clashes i)) j
+    from_blocker : (i j : ℕ) → i < g.facts → AreInConflict g.clashes i j × ¬ Ranks pairs g i j
+        → Contains (filter (λ j. not (has (get_or listed i []) j)) (rivals g.clashes i)) j
     from_blocker i j k (c, n) =
         Contains-filter_to (λ j. not (has (get_or listed i []) j)) (rivals g.clashes i) j ((s.rivals_exact i j k).1 c)
         (not_from_false _ (has_not (get_or listed i []) j (λ m. n ((told i j k).0 (has_true (get_or listed i []) j m), c))))

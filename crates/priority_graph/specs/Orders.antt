@@ -1,5 +1,6 @@
 -- How an order of all facts grows, a fact at a time, by the counts of better facts that aren't there yet.
-use Rattle.std.specs.Prelude.{◌≡◌, ◌≢◌, ℕ, zero, suc, ◌+◌, ◌<◌, ◌↔◌, List, [], length, take, All, AllPairs, Contains, Bool, ◌&&◌, not, if◌then◌else◌, slice_index, slice_index_or}
+use Rattle.std.specs.Prelude.{◌≡◌, ◌≢◌, ℕ, zero, suc, ◌+◌, ◌<◌, ◌↔◌, List, [], length, take, All, AllPairs, Contains, Bool, ◌&&◌, not, if◌then◌else◌}
+use Rattle.std.specs.Prelude.{slice_index, slice_index_or}
 use Rattle.cq_terms.specs.Lists.{IsAscending}
 use Rattle.priority_graph.specs.Split.{has}
 

@@ -1,5 +1,6 @@
 -- The conflicts of each fact in two lists: the facts that it is better than, and those that block it.
-use Rattle.std.specs.Prelude.{◌≡◌, ℕ, ◌+◌, ◌<◌, ◌^◌, ◌==◌, ◌↔◌, List, [], length, map, filter, Bool, if◌then◌else◌, Contains, All, slice_index, slice_index_or, nat_lt, not}
+use Rattle.std.specs.Prelude.{◌≡◌, ℕ, ◌+◌, ◌<◌, ◌^◌, ◌==◌, ◌↔◌, List, [], length, map, filter, Bool, if◌then◌else◌, Contains, All, slice_index}
+use Rattle.std.specs.Prelude.{slice_index_or, nat_lt, not}
 use Rattle.std.specs.List.{list_any}
 use Rattle.cq_terms.specs.declared.facts.Pair.{Pair}
 use Rattle.cq_terms.specs.declared.flat_lists.KeyedNumber.{KeyedNumber}

@@ -16,6 +16,3 @@ pub use laws::{
     pairs_rank_as_pareto, priority_means_the_input, restricted_is_pareto,
 };
 pub use refusal::PriorityRefusal;
-
-#[cfg(test)]
-mod tests;

@@ -29,4 +29,5 @@ module _ {X : Type 0} (R : X → X → Type 0) where
 
 -- numbers have one sorted list
 pub sorted_same : (numbers xs ys : List ℕ) → IsSorted numbers xs → IsSorted numbers ys → xs ≡ ys
-sorted_same numbers xs ys left right = ascending_same xs ys left.ascending right.ascending (λ i there. (right.same i).1 ((left.same i).0 there)) (λ i there. (left.same i).1 ((right.same i).0 there))
+sorted_same numbers xs ys left right = ascending_same xs ys left.ascending right.ascending (λ i there. (right.same i).1 ((left.same i).0 there))
+    (λ i there. (left.same i).1 ((right.same i).0 there))

@@ -1,5 +1,6 @@
 -- Bindings that grow, and valuations that agree.
-use Rattle.std.proofs.Common.{◌≡◌, ℕ, ◌<◌, Bool, true, false, cond, eqb, List, [], ◌∷◌, ◌++◌, length, get_or, All, Contains, ◌⊎◌, inl, inr, refl, sym, ap, ◌∙◌, subst, arith, IsTrue, Result, Ok, Err, IfOk, OnOk}
+use Rattle.std.proofs.Common.{◌≡◌, ℕ, ◌<◌, Bool, true, false, cond, eqb, List, [], ◌∷◌, ◌++◌, length, get_or, All, Contains, ◌⊎◌, inl, inr, refl, sym, ap}
+use Rattle.std.proofs.Common.{◌∙◌, subst, arith, IsTrue, Result, Ok, Err, IfOk, OnOk}
 use Rattle.std.proofs.lemmas.Bool.Decides.{nat_tests, Decides-eqb}
 use Rattle.std.proofs.lemmas.List.Elements.{All-push, All-contains, Contains-get_or, Contains-append_left, Contains-push}
 use Rattle.std.proofs.lemmas.List.{append-nil, append_assoc}
@@ -25,7 +26,8 @@ pub not_bound : (bindings : List Binding) (l : ℕ) → All (λ b. b.variable �
 not_bound bindings l none (k, b, within, at, e) = All-contains (λ (x : Binding). x.variable ≡ l → ⊥) bindings b none (k, within, at) e
 
 -- nothing changes
-pub binds_none : (P : (ℕ → ℕ) → Type 0) (stands : ℕ → Type 0) (bindings : List Binding) → AreConsistent bindings → ((v : ℕ → ℕ) → Agrees bindings v → P v) → ((l : ℕ) → stands l → IsBound bindings l) → Binds P stands bindings bindings true
+pub binds_none : (P : (ℕ → ℕ) → Type 0) (stands : ℕ → Type 0) (bindings : List Binding) → AreConsistent bindings → ((v : ℕ → ℕ) → Agrees bindings v → P v)
+    → ((l : ℕ) → stands l → IsBound bindings l) → Binds P stands bindings bindings true
 binds_none P stands bindings consistent holds bound = record {
   grown = ([], sym (append-nil bindings));
   consistent = λ _. consistent;
@@ -34,7 +36,8 @@ binds_none P stands bindings consistent holds bound = record {
   never = λ h. cc h;
 }
 
-pub binds_never : (P : (ℕ → ℕ) → Type 0) (stands : ℕ → Type 0) (bindings : List Binding) → ((v : ℕ → ℕ) → Agrees bindings v → P v → ⊥) → Binds P stands bindings bindings false
+pub binds_never : (P : (ℕ → ℕ) → Type 0) (stands : ℕ → Type 0) (bindings : List Binding) → ((v : ℕ → ℕ) → Agrees bindings v → P v → ⊥)
+    → Binds P stands bindings bindings false
 binds_never P stands bindings never = record {
   grown = ([], sym (append-nil bindings));
   consistent = λ h. cc h;
@@ -68,10 +71,12 @@ same_var : (l m : ℕ) → term.Var l ≡ term.Var m → l ≡ m
 same_var l m e = cc
 
 -- a bound variable has to be its individual
-pub binds_bound : (bindings : List Binding) (l c d : ℕ) (fits : Bool) → AreConsistent bindings → IsBound bindings l → ((v : ℕ → ℕ) → Agrees bindings v → d ≡ v l) → fits ≡ eqb d c → Binds (λ v. TermIs v (term.Var l) c) (IsVar (term.Var l)) bindings bindings fits
+pub binds_bound : (bindings : List Binding) (l c d : ℕ) (fits : Bool) → AreConsistent bindings → IsBound bindings l
+    → ((v : ℕ → ℕ) → Agrees bindings v → d ≡ v l) → fits ≡ eqb d c → Binds (λ v. TermIs v (term.Var l) c) (IsVar (term.Var l)) bindings bindings fits
 binds_bound bindings l c d true consistent bound value is =
     let same : d ≡ c = (Decides-eqb d c).0 (sym is) in
-    binds_none (λ v. TermIs v (term.Var l) c) (IsVar (term.Var l)) bindings consistent (λ v agrees. sym same ∙ value v agrees) (λ m e. subst (IsBound bindings) (same_var l m e) bound)
+    binds_none (λ v. TermIs v (term.Var l) c) (IsVar (term.Var l)) bindings consistent (λ v agrees. sym same ∙ value v agrees)
+    (λ m e. subst (IsBound bindings) (same_var l m e) bound)
 binds_bound bindings l c d false consistent bound value is =
     binds_never (λ v. TermIs v (term.Var l) c) (IsVar (term.Var l)) bindings (λ v agrees e.
     let same : eqb d c ≡ true = (Decides-eqb d c).1 (value v agrees ∙ sym e) in
@@ -79,14 +84,16 @@ binds_bound bindings l c d false consistent bound value is =
     cc both)
 
 -- a variable is bound for the first time
-pub binds_variable : (bindings : List Binding) (l c : ℕ) → AreConsistent bindings → (IsBound bindings l → ⊥) → Binds (λ v. TermIs v (term.Var l) c) (IsVar (term.Var l)) bindings (bindings ++ (record { variable = l; individual = c }) ∷ []) true
+pub binds_variable : (bindings : List Binding) (l c : ℕ) → AreConsistent bindings → (IsBound bindings l → ⊥)
+    → Binds (λ v. TermIs v (term.Var l) c) (IsVar (term.Var l)) bindings (bindings ++ (record { variable = l; individual = c }) ∷ []) true
 binds_variable bindings l c consistent free =
     let b : Binding = record { variable = l; individual = c } in
     record {
       grown = (b ∷ [], refl);
       consistent = λ _. (
         changed consistent.0 l c,
-        All-push (λ (x : Binding). changed consistent.0 l c x.variable ≡ x.individual) bindings b (changed_agrees bindings consistent.0 l c free consistent.1) (changed_here consistent.0 l c),
+        All-push (λ (x : Binding). changed consistent.0 l c x.variable ≡ x.individual) bindings b (changed_agrees bindings consistent.0 l c free consistent.1)
+            (changed_here consistent.0 l c),
       );
       exact = λ _ v. (
         (λ agrees. (
@@ -109,7 +116,8 @@ pub binds_both : (P Q R : (ℕ → ℕ) → Type 0) (first second stands : ℕ �
     → ((v : ℕ → ℕ) → R v → P v × Q v) → ((v : ℕ → ℕ) → P v → Q v → R v) → ((l : ℕ) → stands l → first l ⊎ second l)
     → Binds P first old mid true → Binds Q second mid new fits → Binds R stands old new fits
 binds_both P Q R first second stands old mid new fits parts both either left right =
-    let grown : new ≡ old ++ (left.grown.0 ++ right.grown.0) = right.grown.1 ∙ ap (λ xs. xs ++ right.grown.0) left.grown.1 ∙ append_assoc old left.grown.0 right.grown.0 in
+    let grown : new ≡ old ++ (left.grown.0 ++ right.grown.0) = right.grown.1 ∙ ap (λ xs. xs ++ right.grown.0) left.grown.1
+    ∙ append_assoc old left.grown.0 right.grown.0 in
     record {
       grown = (left.grown.0 ++ right.grown.0, grown);
       consistent = right.consistent;
@@ -129,11 +137,13 @@ binds_both P Q R first second stands old mid new fits parts both either left rig
     }
   where
     bound_either : IsTrue fits → (l : ℕ) → first l ⊎ second l → IsBound new l
-    bound_either both_fit l (inl here) = subst (λ (xs : List Binding). IsBound xs l) (sym right.grown.1) (bound_more mid right.grown.0 l (left.bound refl l here))
+    bound_either both_fit l (inl here) = subst (λ (xs : List Binding). IsBound xs l) (sym right.grown.1)
+        (bound_more mid right.grown.0 l (left.bound refl l here))
     bound_either both_fit l (inr here) = right.bound both_fit l here
 
 -- the first of two doesn't fit
-pub binds_not_first : (P R : (ℕ → ℕ) → Type 0) (first stands : ℕ → Type 0) (old mid : List Binding) → ((v : ℕ → ℕ) → R v → P v) → Binds P first old mid false → Binds R stands old mid false
+pub binds_not_first : (P R : (ℕ → ℕ) → Type 0) (first stands : ℕ → Type 0) (old mid : List Binding) → ((v : ℕ → ℕ) → R v → P v) → Binds P first old mid false
+    → Binds R stands old mid false
 binds_not_first P R first stands old mid part left = record {
   grown = left.grown;
   consistent = λ h. cc h;

@@ -15,9 +15,11 @@ use Rattle.query_matching.specs.Extensions.{Extends, ExtendsBy, IsCovered}
 use Rattle.query_matching.proofs.Ascending.{sorted_same}
 use Rattle.query_matching.proofs.BindingLemmas.{bound_more}
 
-module _ (facts : List Fact) (head : List Term) (a : QAtom) (more : List QAtom) (n : ℕ) (f : Fact) (old new : List Binding) (path : List ℕ) (at : slice_get facts n ≡ Some f) where
+module _ (facts : List Fact) (head : List Term) (a : QAtom) (more : List QAtom) (n : ℕ) (f : Fact) (old new : List Binding) (path : List ℕ)
+    (at : slice_get facts n ≡ Some f) where
   -- what goes on from the fact completes what was before
-  pub step_back : Binds (λ v. AtomIs v a f) (λ l. StandsIn l a) old new true → (row : Row) → Extends facts head more new (path ++ n ∷ []) row → ExtendsBy facts head a more n old path row
+  pub step_back : Binds (λ v. AtomIs v a f) (λ l. StandsIn l a) old new true → (row : Row) → Extends facts head more new (path ++ n ∷ []) row
+      → ExtendsBy facts head a more n old path row
   step_back binds row (numbers, c) =
       let both = (binds.exact refl c.valuation).0 c.agrees in (
         numbers,
@@ -31,7 +33,8 @@ module _ (facts : List Fact) (head : List Term) (a : QAtom) (more : List QAtom) 
       )
 
   -- and what completes it by the fact goes on from there
-  pub step_on : Binds (λ v. AtomIs v a f) (λ l. StandsIn l a) old new true → (row : Row) → ExtendsBy facts head a more n old path row → Extends facts head more new (path ++ n ∷ []) row
+  pub step_on : Binds (λ v. AtomIs v a f) (λ l. StandsIn l a) old new true → (row : Row) → ExtendsBy facts head a more n old path row
+      → Extends facts head more new (path ++ n ∷ []) row
   step_on binds row (numbers, c) =
       let same : Some c.fits.0.0 ≡ Some f = sym c.fits.0.1 ∙ at in
       let fact_is : c.fits.0.0 ≡ f = cc same in
@@ -54,11 +57,13 @@ module _ (facts : List Fact) (head : List Term) (a : QAtom) (more : List QAtom) 
       binds.never refl c.valuation c.agrees (subst (AtomIs c.valuation a) fact_is c.fits.0.2)
 
 -- some number extends what is bound exactly where some extends it by a number
-pub by_first : (facts : List Fact) (head : List Term) (a : QAtom) (more : List QAtom) (bindings : List Binding) (path : List ℕ) (row : Row) (n : ℕ) → ExtendsBy facts head a more n bindings path row → Extends facts head (a ∷ more) bindings path row
+pub by_first : (facts : List Fact) (head : List Term) (a : QAtom) (more : List QAtom) (bindings : List Binding) (path : List ℕ) (row : Row) (n : ℕ)
+    → ExtendsBy facts head a more n bindings path row → Extends facts head (a ∷ more) bindings path row
 by_first facts head a more bindings path row n (numbers, c) = (n ∷ numbers, c)
 
 -- and the first number is that of a fact which the atom may be
-pub first_of : (facts : List Fact) (head : List Term) (a : QAtom) (more : List QAtom) (bindings : List Binding) (path : List ℕ) (row : Row) → Extends facts head (a ∷ more) bindings path row
+pub first_of : (facts : List Fact) (head : List Term) (a : QAtom) (more : List QAtom) (bindings : List Binding) (path : List ℕ) (row : Row)
+    → Extends facts head (a ∷ more) bindings path row
     → (n : ℕ) × ExtendsBy facts head a more n bindings path row × ((v : ℕ → ℕ) × (f : Fact) × Agrees bindings v × (slice_get facts n ≡ Some f) × AtomIs v a f)
 first_of facts head a more bindings path row ([], c) = absurd c.fits
 first_of facts head a more bindings path row (n ∷ numbers, c) = (n, (numbers, c), (c.valuation, c.fits.0.0, c.agrees, c.fits.0.1, c.fits.0.2))
@@ -70,7 +75,8 @@ any_cons l a more (zero, x, within, at, here) = inl (subst (StandsIn l) (sym at)
 any_cons l a more (suc k, x, within, at, here) = inr (k, x, omega arith, at, here)
 
 -- a covered head stays covered where an atom is bound
-pub covered_on : (a : QAtom) (more : List QAtom) (old new grown : List Binding) → new ≡ old ++ grown → ((l : ℕ) → StandsIn l a → IsBound new l) → (head : List Term) → All (IsCovered old (a ∷ more)) head → All (IsCovered new more) head
+pub covered_on : (a : QAtom) (more : List QAtom) (old new grown : List Binding) → new ≡ old ++ grown → ((l : ℕ) → StandsIn l a → IsBound new l)
+    → (head : List Term) → All (IsCovered old (a ∷ more)) head → All (IsCovered new more) head
 covered_on a more old new grown longer bound head covered = All-weaker (IsCovered old (a ∷ more)) (IsCovered new more) each head covered
   where
     bound_or_later : (l : ℕ) → IsBound old l ⊎ Any (StandsIn l) (a ∷ more) → IsBound new l ⊎ Any (StandsIn l) more
@@ -96,7 +102,8 @@ covered_first body head meant = All-weaker (IsMeant body) (IsCovered [] body) ea
     each term.Any h = absurd h
 
 -- a head without `_` is one tuple under a valuation
-head_same : (v : ℕ → ℕ) (bindings : List Binding) (rest : List QAtom) (head : List Term) (xs ys : List ℕ) → All (IsCovered bindings rest) head → HeadIs v head xs → HeadIs v head ys → xs ≡ ys
+head_same : (v : ℕ → ℕ) (bindings : List Binding) (rest : List QAtom) (head : List Term) (xs ys : List ℕ) → All (IsCovered bindings rest) head
+    → HeadIs v head xs → HeadIs v head ys → xs ≡ ys
 head_same v bindings rest [] [] [] covered left right = refl
 head_same v bindings rest [] [] (y ∷ ys) covered left right = absurd right
 head_same v bindings rest [] (x ∷ xs) ys covered left right = absurd left
@@ -114,7 +121,8 @@ head_same v bindings rest (t ∷ head) (x ∷ xs) (y ∷ ys) covered left right 
 
 -- ---- the end
 
-module _ (facts : List Fact) (head : List Term) (bindings : List Binding) (path : List ℕ) (row : Row) (covered : All (IsCovered bindings []) head) (tuple : (v : ℕ → ℕ) → Agrees bindings v → HeadIs v head row.tuple) (image : IsSorted path row.image) where
+module _ (facts : List Fact) (head : List Term) (bindings : List Binding) (path : List ℕ) (row : Row) (covered : All (IsCovered bindings []) head)
+    (tuple : (v : ℕ → ℕ) → Agrees bindings v → HeadIs v head row.tuple) (image : IsSorted path row.image) where
   -- the row of what is bound is one
   pub row_extends : (v : ℕ → ℕ) → Agrees bindings v → Extends facts head [] bindings path row
   row_extends v agrees = (
@@ -133,5 +141,6 @@ module _ (facts : List Fact) (head : List Term) (bindings : List Binding) (path 
   row_is other (n ∷ numbers, c) = absurd c.fits
   row_is other ([], c) =
       let tuples : row.tuple ≡ other.tuple = head_same c.valuation bindings [] head row.tuple other.tuple covered (tuple c.valuation c.agrees) c.tuple in
-      let images : row.image ≡ other.image = sorted_same path row.image other.image image (subst (λ (xs : List ℕ). IsSorted xs other.image) (append-nil path) c.image) in
+      let images : row.image ≡ other.image = sorted_same path row.image other.image image
+      (subst (λ (xs : List ℕ). IsSorted xs other.image) (append-nil path) c.image) in
       λ i. record { tuple = tuples i; image = images i }

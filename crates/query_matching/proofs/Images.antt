@@ -42,7 +42,13 @@ term_is v term.Any c e = tt
 
 atom_becomes : (v : ℕ → ℕ) (a : QAtom) (f : Fact) → AtomIs v a f → AtomBecomes (λ i. Named (v i)) a (atom_of f)
 atom_becomes v (atom.Concept p t) (fact.Concept q c) h = (Named c, becomes v t c h.1, ap (λ n. ConceptAtom n (Named c)) (sym h.0))
-atom_becomes v (atom.Link p s t) (fact.Link q c d) h = (Named c, Named d, becomes v s c h.1, becomes v t d h.2, ap (λ n. RoleAtom n (Named c) (Named d)) (sym h.0))
+atom_becomes v (atom.Link p s t) (fact.Link q c d) h = (
+  Named c,
+  Named d,
+  becomes v s c h.1,
+  becomes v t d h.2,
+  ap (λ n. RoleAtom n (Named c) (Named d)) (sym h.0),
+)
 atom_becomes v (atom.Concept p t) (fact.Link q c d) h = absurd h
 atom_becomes v (atom.Link p s t) (fact.Concept q c) h = absurd h
 
@@ -56,8 +62,11 @@ atom_is v (atom.Link p s t) (fact.Link q c d) h =
     let e : RoleAtom q (Named c) (Named d) ≡ RoleAtom p h.0 h.1 = h.4 in
     let pred : p ≡ q = cc in
     let first : h.0 ≡ Named c = cc in
-    let second : h.1 ≡ Named d = cc in
-    (pred, term_is v s c (subst (λ (n : Node). Becomes (λ i. Named (v i)) s n) first h.2), term_is v t d (subst (λ (n : Node). Becomes (λ i. Named (v i)) t n) second h.3))
+    let second : h.1 ≡ Named d = cc in (
+      pred,
+      term_is v s c (subst (λ (n : Node). Becomes (λ i. Named (v i)) s n) first h.2),
+      term_is v t d (subst (λ (n : Node). Becomes (λ i. Named (v i)) t n) second h.3),
+    )
 atom_is v (atom.Concept p t) (fact.Link q c d) h = let e : RoleAtom q (Named c) (Named d) ≡ ConceptAtom p h.0 = h.2 in cc
 atom_is v (atom.Link p s t) (fact.Concept q c) h = let e : ConceptAtom q (Named c) ≡ RoleAtom p h.0 h.1 = h.4 in cc
 
@@ -78,7 +87,8 @@ place_of : (facts : List Fact) (f : Fact) → Contains facts f → (n : ℕ) × 
 place_of facts f (k, l, e) = (k, slice_get-get_or facts k f l ∙ ap Some e)
 
 module _ (facts : List Fact) (v : ℕ → ℕ) where
-  facts_of : (atoms : List QAtom) (numbers : List ℕ) → AllZip (NumberFits facts v) atoms numbers → (image : List Fact) × AllZip (AtomFits facts v) atoms image × AreAt facts numbers image
+  facts_of : (atoms : List QAtom) (numbers : List ℕ) → AllZip (NumberFits facts v) atoms numbers → (image : List Fact) × AllZip (AtomFits facts v) atoms image
+      × AreAt facts numbers image
   unfolding AtomFits AreAt
   facts_of [] [] all = ([], tt, tt)
   facts_of [] (n ∷ numbers) all = absurd all
@@ -88,7 +98,8 @@ module _ (facts : List Fact) (v : ℕ → ℕ) where
       let more = facts_of atoms numbers all.1 in
       (f ∷ more.0, ((there_at facts n f all.0.1, atom_becomes v a f all.0.2), more.1), (all.0.1, more.2))
 
-  numbers_of : (atoms : List QAtom) (image : List Fact) → AllZip (AtomFits facts v) atoms image → (numbers : List ℕ) × AllZip (NumberFits facts v) atoms numbers × AreAt facts numbers image
+  numbers_of : (atoms : List QAtom) (image : List Fact) → AllZip (AtomFits facts v) atoms image → (numbers : List ℕ)
+      × AllZip (NumberFits facts v) atoms numbers × AreAt facts numbers image
   unfolding AtomFits AreAt
   numbers_of [] [] all = ([], tt, tt)
   numbers_of [] (f ∷ image) all = absurd all
@@ -99,25 +110,29 @@ module _ (facts : List Fact) (v : ℕ → ℕ) where
       (n.0 ∷ more.0, ((f, n.1, atom_is v a f all.0.1), more.1), (n.1, more.2))
 
 -- each number has its fact in the image
-at_number : (facts : List Fact) (numbers : List ℕ) (image : List Fact) → AreAt facts numbers image → (i : ℕ) → Contains numbers i → (f : Fact) × Contains image f × (slice_get facts i ≡ Some f)
+at_number : (facts : List Fact) (numbers : List ℕ) (image : List Fact) → AreAt facts numbers image → (i : ℕ) → Contains numbers i → (f : Fact)
+    × Contains image f × (slice_get facts i ≡ Some f)
 unfolding AreAt
 at_number facts [] image are i there = absurd (Contains-nil i there)
 at_number facts (n ∷ numbers) [] are i there = absurd are
 at_number facts (n ∷ numbers) (f ∷ image) are i there = by (Contains-cases n numbers i there) (at_number facts numbers image are.1 i)
   where
-    by : (n ≡ i) ⊎ Contains numbers i → (Contains numbers i → (g : Fact) × Contains image g × (slice_get facts i ≡ Some g)) → (g : Fact) × Contains (f ∷ image) g × (slice_get facts i ≡ Some g)
+    by : (n ≡ i) ⊎ Contains numbers i → (Contains numbers i → (g : Fact) × Contains image g × (slice_get facts i ≡ Some g)) → (g : Fact)
+        × Contains (f ∷ image) g × (slice_get facts i ≡ Some g)
     by (inl e) more = (f, Contains-head f image, ap (slice_get facts) (sym e) ∙ are.0)
     by (inr later) more = let h = more later in (h.0, Contains-later f image h.0 h.1, h.2)
 
 -- each fact of the image has its number
-at_fact : (facts : List Fact) (numbers : List ℕ) (image : List Fact) → AreAt facts numbers image → (f : Fact) → Contains image f → (n : ℕ) × Contains numbers n × (slice_get facts n ≡ Some f)
+at_fact : (facts : List Fact) (numbers : List ℕ) (image : List Fact) → AreAt facts numbers image → (f : Fact) → Contains image f → (n : ℕ)
+    × Contains numbers n × (slice_get facts n ≡ Some f)
 unfolding AreAt
 at_fact facts [] [] are f there = absurd (Contains-nil f there)
 at_fact facts [] (g ∷ image) are f there = absurd are
 at_fact facts (n ∷ numbers) [] are f there = absurd are
 at_fact facts (n ∷ numbers) (g ∷ image) are f there = by (Contains-cases g image f there) (at_fact facts numbers image are.1 f)
   where
-    by : (g ≡ f) ⊎ Contains image f → (Contains image f → (m : ℕ) × Contains numbers m × (slice_get facts m ≡ Some f)) → (m : ℕ) × Contains (n ∷ numbers) m × (slice_get facts m ≡ Some f)
+    by : (g ≡ f) ⊎ Contains image f → (Contains image f → (m : ℕ) × Contains numbers m × (slice_get facts m ≡ Some f)) → (m : ℕ) × Contains (n ∷ numbers) m
+        × (slice_get facts m ≡ Some f)
     by (inl e) more = (n, Contains-head n numbers, are.0 ∙ ap Some e)
     by (inr later) more = let h = more later in (h.0, Contains-later n numbers h.0 h.1, h.2)
 

@@ -56,7 +56,8 @@ pub put_itself : (k : Row) (rows : List Row) → Contains (insert_key row_cmp ro
 put_itself k [] = Contains-head k []
 put_itself k (x ∷ xs) = by (row_cmp k x) refl (put_itself k xs)
   where
-    by : (o : Ordering) → row_cmp k x ≡ o → Contains (insert_key row_cmp xs k) k → Contains (match_ordering o (k ∷ x ∷ xs) (x ∷ xs) (x ∷ insert_key row_cmp xs k)) k
+    by : (o : Ordering) → row_cmp k x ≡ o → Contains (insert_key row_cmp xs k) k
+        → Contains (match_ordering o (k ∷ x ∷ xs) (x ∷ xs) (x ∷ insert_key row_cmp xs k)) k
     by Less is more = Contains-head k (x ∷ xs)
     by Equal is more = subst (Contains (x ∷ xs)) (sym (rows_same k x is)) (Contains-head x xs)
     by Greater is more = Contains-later x (insert_key row_cmp xs k) k more
@@ -65,7 +66,8 @@ pub put_kept : (k : Row) (rows : List Row) (r : Row) → Contains rows r → Con
 put_kept k [] r there = absurd (Contains-nil r there)
 put_kept k (x ∷ xs) r there = by (row_cmp k x) (Contains-cases x xs r there) (put_kept k xs r)
   where
-    by : (o : Ordering) → (x ≡ r) ⊎ Contains xs r → (Contains xs r → Contains (insert_key row_cmp xs k) r) → Contains (match_ordering o (k ∷ x ∷ xs) (x ∷ xs) (x ∷ insert_key row_cmp xs k)) r
+    by : (o : Ordering) → (x ≡ r) ⊎ Contains xs r → (Contains xs r → Contains (insert_key row_cmp xs k) r)
+        → Contains (match_ordering o (k ∷ x ∷ xs) (x ∷ xs) (x ∷ insert_key row_cmp xs k)) r
     by Less _ more = Contains-later k (x ∷ xs) r there
     by Equal _ more = there
     by Greater (inl e) more = subst (Contains (x ∷ insert_key row_cmp xs k)) e (Contains-head x (insert_key row_cmp xs k))
@@ -91,7 +93,8 @@ put_only k (x ∷ xs) r there = by (row_cmp k x) there (put_only k xs r)
         in_rest (inl g) = inl (Contains-later x xs r g)
         in_rest (inr e) = inr e
 
-    by : (o : Ordering) → Contains (match_ordering o (k ∷ x ∷ xs) (x ∷ xs) (x ∷ insert_key row_cmp xs k)) r → (Contains (insert_key row_cmp xs k) r → Contains xs r ⊎ (k ≡ r)) → Contains (x ∷ xs) r ⊎ (k ≡ r)
+    by : (o : Ordering) → Contains (match_ordering o (k ∷ x ∷ xs) (x ∷ xs) (x ∷ insert_key row_cmp xs k)) r
+        → (Contains (insert_key row_cmp xs k) r → Contains xs r ⊎ (k ≡ r)) → Contains (x ∷ xs) r ⊎ (k ≡ r)
     by Less there more = first (Contains-cases k (x ∷ xs) r there)
     by Equal there more = inl there
     by Greater there more = later more (Contains-cases x (insert_key row_cmp xs k) r there)

@@ -35,7 +35,8 @@ AddsOnly-then P old mid new first second = record {
     by row (inr p) = inr p
 
 -- what goes on by a number goes on so after the same walk
-moved : (facts : List Fact) (head : List Term) (a : QAtom) (more : List QAtom) (n : ℕ) (old new : Walk) → IsSameWalk old new → (row : Row) → GoesOnBy facts head a more n new row → GoesOnBy facts head a more n old row
+moved : (facts : List Fact) (head : List Term) (a : QAtom) (more : List QAtom) (n : ℕ) (old new : Walk) → IsSameWalk old new → (row : Row)
+    → GoesOnBy facts head a more n new row → GoesOnBy facts head a more n old row
 moved facts head a more n old new same row h =
     subst (λ (xs : List Binding). ExtendsBy facts head a more n xs old.path.items row) same.bindings
     (subst (λ (xs : List ℕ). ExtendsBy facts head a more n new.bindings.items xs row) same.path h)
@@ -44,7 +45,8 @@ turned : (old new : Walk) → IsSameWalk old new → IsSameWalk new old
 turned old new same = record { bindings = sym same.bindings; path = sym same.path }
 
 -- what was found for the first numbers, of which one stands at each place
-pub record SoFar (facts : List Fact) (head : List Term) (rest : List QAtom) (a : QAtom) (more : List QAtom) (number : ℕ → ℕ) (i : ℕ) (old now : Walk) (before found : List Row) : Type 0 where
+pub record SoFar (facts : List Fact) (head : List Term) (rest : List QAtom) (a : QAtom) (more : List QAtom) (number : ℕ → ℕ) (i : ℕ) (old now : Walk)
+    (before found : List Row) : Type 0 where
   pub same : IsSameWalk old now
   pub only : AddsOnly (GoesOn facts head rest old) before found
   pub complete : (k : ℕ) → k < i → HasAll (GoesOnBy facts head a more (number k) old) found
@@ -62,18 +64,22 @@ module _ (facts : List Fact) (head : List Term) (rest : List QAtom) (a : QAtom) 
     pub so_far_can : CanExtend head rest old → CanExtend head (a ∷ more) now
     so_far_can can = record {
       consistent = subst AreConsistent (sym so.same.bindings) can.consistent;
-      covered = subst (λ (xs : List Binding). All (IsCovered xs (a ∷ more)) head) (sym so.same.bindings) (subst (λ (xs : List QAtom). All (IsCovered old.bindings.items xs) head) split can.covered);
+      covered = subst (λ (xs : List Binding). All (IsCovered xs (a ∷ more)) head) (sym so.same.bindings)
+          (subst (λ (xs : List QAtom). All (IsCovered old.bindings.items xs) head) split can.covered);
     }
 
     -- what a number adds is right
     pub so_far_only : (n : ℕ) (new : List Row) → AddsOnly (GoesOnBy facts head a more n now) found new → AddsOnly (GoesOn facts head rest old) before new
-    so_far_only n new adds = AddsOnly-then (GoesOn facts head rest old) before found new so.only (AddsOnly-weaker (GoesOnBy facts head a more n now) (GoesOn facts head rest old) found new whole adds)
+    so_far_only n new adds = AddsOnly-then (GoesOn facts head rest old) before found new so.only
+        (AddsOnly-weaker (GoesOnBy facts head a more n now) (GoesOn facts head rest old) found new whole adds)
       where
         whole : (row : Row) → GoesOnBy facts head a more n now row → GoesOn facts head rest old row
-        whole row h = subst (λ (xs : List QAtom). Extends facts head xs old.bindings.items old.path.items row) (sym split) (by_first facts head a more old.bindings.items old.path.items row n (moved facts head a more n old now so.same row h))
+        whole row h = subst (λ (xs : List QAtom). Extends facts head xs old.bindings.items old.path.items row) (sym split)
+            (by_first facts head a more old.bindings.items old.path.items row n (moved facts head a more n old now so.same row h))
 
     -- all that the next number gives was added
-    pub so_far_more : (new : Walk) (after : List Row) → AddsOnly (GoesOnBy facts head a more (number i) now) found after → HasAll (GoesOnBy facts head a more (number i) now) after → IsSameWalk now new → SoFar facts head rest a more number (i + 1) old new before after
+    pub so_far_more : (new : Walk) (after : List Row) → AddsOnly (GoesOnBy facts head a more (number i) now) found after
+        → HasAll (GoesOnBy facts head a more (number i) now) after → IsSameWalk now new → SoFar facts head rest a more number (i + 1) old new before after
     so_far_more new after adds all same = record {
       same = record { bindings = same.bindings ∙ so.same.bindings; path = same.path ∙ so.same.path };
       only = so_far_only (number i) after adds;
@@ -84,32 +90,41 @@ module _ (facts : List Fact) (head : List Term) (rest : List QAtom) (a : QAtom) 
         by k row (inl earlier) lt h = adds.kept row (so.complete k earlier row h)
         by k row (inr here) lt h =
             let is : k ≡ i = omega (arith, here, lt) in
-            all row (moved facts head a more (number i) now old (turned old now so.same) row (subst (λ (j : ℕ). GoesOnBy facts head a more (number j) old row) is h))
+            all row (moved facts head a more (number i) now old (turned old now so.same) row
+            (subst (λ (j : ℕ). GoesOnBy facts head a more (number j) old row) is h))
 
     -- where each fact that the atom may be has a place before, all was added
     pub so_far_all : HasEach facts old.bindings.items a (λ n. (k : ℕ) × (k < i) × (number k ≡ n)) → HasAll (GoesOn facts head rest old) found
     so_far_all each row h =
-        let first = first_of facts head a more old.bindings.items old.path.items row (subst (λ (xs : List QAtom). Extends facts head xs old.bindings.items old.path.items row) split h) in
+        let first = first_of facts head a more old.bindings.items old.path.items row
+        (subst (λ (xs : List QAtom). Extends facts head xs old.bindings.items old.path.items row) split h) in
         let fit = first.2 in
         let there = each fit.0 first.0 fit.1 fit.2 fit.3 fit.4 in
         so.complete there.0 there.1 row (subst (λ (n : ℕ). GoesOnBy facts head a more n old row) (sym there.2) first.1)
 
 -- the search may go on where the atom is bound to a fact
-pub can_go_on : (head : List Term) (a : QAtom) (more : List QAtom) (f : Fact) (old new : Walk) → CanExtend head (a ∷ more) old → Binds (λ v. AtomIs v a f) (λ l. StandsIn l a) old.bindings.items new.bindings.items true → CanExtend head more new
+pub can_go_on : (head : List Term) (a : QAtom) (more : List QAtom) (f : Fact) (old new : Walk) → CanExtend head (a ∷ more) old
+    → Binds (λ v. AtomIs v a f) (λ l. StandsIn l a) old.bindings.items new.bindings.items true → CanExtend head more new
 can_go_on head a more f old new can binds = record {
   consistent = binds.consistent refl;
   covered = covered_on a more old.bindings.items new.bindings.items binds.grown.0 binds.grown.1 (binds.bound refl) head can.covered;
 }
 
 -- what goes on from the bound fact is what the atom adds by it
-pub goes_on_only : (facts : List Fact) (head : List Term) (a : QAtom) (more : List QAtom) (n : ℕ) (f : Fact) (old new : Walk) (before after : List Row) → slice_get facts n ≡ Some f → Binds (λ v. AtomIs v a f) (λ l. StandsIn l a) old.bindings.items new.bindings.items true → new.path.items ≡ old.path.items ++ n ∷ []
+pub goes_on_only : (facts : List Fact) (head : List Term) (a : QAtom) (more : List QAtom) (n : ℕ) (f : Fact) (old new : Walk) (before after : List Row)
+    → slice_get facts n ≡ Some f → Binds (λ v. AtomIs v a f) (λ l. StandsIn l a) old.bindings.items new.bindings.items true
+    → new.path.items ≡ old.path.items ++ n ∷ []
     → AddsOnly (GoesOn facts head more new) before after → AddsOnly (GoesOnBy facts head a more n old) before after
 goes_on_only facts head a more n f old new before after at binds pushed adds =
     AddsOnly-weaker (GoesOn facts head more new) (GoesOnBy facts head a more n old) before after
-    (λ row p. step_back facts head a more n f old.bindings.items new.bindings.items old.path.items at binds row (subst (λ (xs : List ℕ). Extends facts head more new.bindings.items xs row) pushed p)) adds
+    (λ row p. step_back facts head a more n f old.bindings.items new.bindings.items old.path.items at binds row
+    (subst (λ (xs : List ℕ). Extends facts head more new.bindings.items xs row) pushed p)) adds
 
 -- and all that the atom adds by it goes on from there
-pub goes_on_all : (facts : List Fact) (head : List Term) (a : QAtom) (more : List QAtom) (n : ℕ) (f : Fact) (old new : Walk) (after : List Row) → slice_get facts n ≡ Some f → Binds (λ v. AtomIs v a f) (λ l. StandsIn l a) old.bindings.items new.bindings.items true → new.path.items ≡ old.path.items ++ n ∷ []
+pub goes_on_all : (facts : List Fact) (head : List Term) (a : QAtom) (more : List QAtom) (n : ℕ) (f : Fact) (old new : Walk) (after : List Row)
+    → slice_get facts n ≡ Some f → Binds (λ v. AtomIs v a f) (λ l. StandsIn l a) old.bindings.items new.bindings.items true
+    → new.path.items ≡ old.path.items ++ n ∷ []
     → HasAll (GoesOn facts head more new) after → HasAll (GoesOnBy facts head a more n old) after
 goes_on_all facts head a more n f old new after at binds pushed all row h =
-    all row (subst (λ (xs : List ℕ). Extends facts head more new.bindings.items xs row) (sym pushed) (step_on facts head a more n f old.bindings.items new.bindings.items old.path.items at binds row h))
+    all row (subst (λ (xs : List ℕ). Extends facts head more new.bindings.items xs row) (sym pushed)
+    (step_on facts head a more n f old.bindings.items new.bindings.items old.path.items at binds row h))

@@ -23,13 +23,15 @@ pub nothing_bound : (bindings : List Binding) → bindings ≡ [] → AreConsist
 nothing_bound bindings none = ((λ _. 0), nothing_agrees bindings none (λ _. 0))
 
 -- the search may begin
-pub first_can : (q : Query) (head : List Term) (body : List QAtom) (walk : Walk) → IsSafe q → head ≡ q.head → body ≡ q.body → walk.bindings.items ≡ [] → CanExtend head body walk
+pub first_can : (q : Query) (head : List Term) (body : List QAtom) (walk : Walk) → IsSafe q → head ≡ q.head → body ≡ q.body → walk.bindings.items ≡ []
+    → CanExtend head body walk
 first_can q head body walk safe head_is body_is none = record {
   consistent = nothing_bound walk.bindings.items none;
   covered = rw (none, head_is, body_is) (covered_first q.body q.head safe.head);
 }
 
-module _ (facts : List Fact) (distinct : AreDistinct facts) (q : Query) (head : List Term) (body : List QAtom) (walk : Walk) (head_is : head ≡ q.head) (body_is : body ≡ q.body) (none : walk.bindings.items ≡ []) (no_path : walk.path.items ≡ []) where
+module _ (facts : List Fact) (distinct : AreDistinct facts) (q : Query) (head : List Term) (body : List QAtom) (walk : Walk) (head_is : head ≡ q.head)
+    (body_is : body ≡ q.body) (none : walk.bindings.items ≡ []) (no_path : walk.path.items ≡ []) where
   row_from : (row : Row) → GoesOn facts head body walk row → IsRowOf facts q row
   row_from row h = hit_of_row facts distinct q row
       (subst (λ (xs : List Term). Extends facts xs q.body [] [] row) head_is

@@ -1,5 +1,6 @@
 -- Lines that are right one after another, up to the first that breaks a rule.
-use Rattle.std.proofs.Common.{◌≡◌, ℕ, zero, suc, ◌+◌, ◌<◌, ◌≤◌, ◌⊎◌, inl, inr, List, [], ◌∷◌, ◌++◌, length, take, All, refl, sym, subst, ap, ◌∙◌, arith, slice_get, Some, append_assoc, append-nil, fold}
+use Rattle.std.proofs.Common.{◌≡◌, ℕ, zero, suc, ◌+◌, ◌<◌, ◌≤◌, ◌⊎◌, inl, inr, List, [], ◌∷◌, ◌++◌, length, take, All, refl, sym, subst, ap, ◌∙◌, arith}
+use Rattle.std.proofs.Common.{slice_get, Some, append_assoc, append-nil, fold}
 use Rattle.std.proofs.lemmas.Bool.{cases_lt}
 use Rattle.std.proofs.lemmas.List.{length-append, take_at, take-append-le, length_push}
 use Rattle.std.proofs.lemmas.List.Elements.{All-push, All-nil}
@@ -26,11 +27,15 @@ use Rattle.refutation_confirmer.specs.Split.{StartsWith}
 -- COUNTS
 
 -- a count is at most that of the lines
-counts : (p : Progress) (lines : List Line) → ((fold after p lines).cores ≤ p.cores + length lines) × ((fold after p lines).answers ≤ p.answers + length lines) × ((fold after p lines).brave ≤ p.brave + length lines)
+counts : (p : Progress) (lines : List Line) → ((fold after p lines).cores ≤ p.cores + length lines)
+    × ((fold after p lines).answers ≤ p.answers + length lines) × ((fold after p lines).brave ≤ p.brave + length lines)
 counts p [] = (omega arith, omega arith, omega arith)
-counts p (line.Answer Yes ar iar cores names tuple ∷ lines) = let h = counts (after p (line.Answer Yes ar iar cores names tuple)) lines in (omega (arith, h.0), omega (arith, h.1), omega (arith, h.2))
-counts p (line.Answer No ar iar cores names tuple ∷ lines) = let h = counts (after p (line.Answer No ar iar cores names tuple)) lines in (omega (arith, h.0), omega (arith, h.1), omega (arith, h.2))
-counts p (line.Answer Undecided ar iar cores names tuple ∷ lines) = let h = counts (after p (line.Answer Undecided ar iar cores names tuple)) lines in (omega (arith, h.0), omega (arith, h.1), omega (arith, h.2))
+counts p (line.Answer Yes ar iar cores names tuple ∷ lines) = let h = counts (after p (line.Answer Yes ar iar cores names tuple)) lines in
+    (omega (arith, h.0), omega (arith, h.1), omega (arith, h.2))
+counts p (line.Answer No ar iar cores names tuple ∷ lines) = let h = counts (after p (line.Answer No ar iar cores names tuple)) lines in
+    (omega (arith, h.0), omega (arith, h.1), omega (arith, h.2))
+counts p (line.Answer Undecided ar iar cores names tuple ∷ lines) = let h = counts (after p (line.Answer Undecided ar iar cores names tuple)) lines in
+    (omega (arith, h.0), omega (arith, h.1), omega (arith, h.2))
 counts p (l ∷ lines) = let h = counts (after p l) lines in (omega (arith, h.0), omega (arith, h.1), omega (arith, h.2))
 
 -- each line has a byte at least
@@ -62,19 +67,22 @@ slice_get-next [] y ys = refl
 slice_get-next (x ∷ xs) y ys = slice_get-next xs y ys
 
 module _ (kb : Knowledge) (q : Query) (texts : List (List ℕ)) (candidates : List (List ℕ)) where
-  right_more : (before : List Line) (l : Line) → AreRight kb q texts candidates before → IsRight kb q texts candidates (progress_of before) l → AreRight kb q texts candidates (before ++ l ∷ [])
+  right_more : (before : List Line) (l : Line) → AreRight kb q texts candidates before → IsRight kb q texts candidates (progress_of before) l
+      → AreRight kb q texts candidates (before ++ l ∷ [])
   right_more before l h r k m e = by (cases_lt k (length before))
     where
       within : k < length before + 1
       within = subst (λ n. k < n) (length_push before l) (slice_get_within (before ++ l ∷ []) k m e)
 
       by : (k < length before) ⊎ (length before ≤ k) → IsRight kb q texts candidates (progress_of (take k (before ++ l ∷ []))) m
-      by (inl s) = subst (λ xs. IsRight kb q texts candidates (progress_of xs) m) (sym (take-append-le k before (l ∷ []) (omega arith))) (h k m (sym (slice_get-left before (l ∷ []) k s) ∙ e))
+      by (inl s) = subst (λ xs. IsRight kb q texts candidates (progress_of xs) m) (sym (take-append-le k before (l ∷ []) (omega arith)))
+          (h k m (sym (slice_get-left before (l ∷ []) k s) ∙ e))
       by (inr s) =
           let last : length before ≡ k = omega (arith, within, s) in
           let both : Some l ≡ Some m = sym (slice_get-next before l []) ∙ subst (λ n. slice_get (before ++ l ∷ []) n ≡ Some m) (sym last) e in
           let same : l ≡ m = cc both in
-          subst (λ xs. IsRight kb q texts candidates (progress_of xs) m) (sym (take_at before (l ∷ []) k last)) (subst (IsRight kb q texts candidates (progress_of before)) same r)
+          subst (λ xs. IsRight kb q texts candidates (progress_of xs) m) (sym (take_at before (l ∷ []) k last))
+          (subst (IsRight kb q texts candidates (progress_of before)) same r)
 
   -- what has been confirmed so far
   pub record ConfirmsSo (report rest : List ℕ) (number : ℕ) (progress : Progress) : Type 0 where
@@ -90,7 +98,8 @@ module _ (kb : Knowledge) (q : Query) (texts : List (List ℕ)) (candidates : Li
   ConfirmsSo-none report = record { before = []; well_formed = All-nil IsWellFormed; bytes = refl; right = λ k l e. cc e; numbered = refl; amount = refl }
 
   -- one right line on
-  pub ConfirmsSo-more : (report rest more : List ℕ) (number : ℕ) (progress : Progress) (l : Line) → ConfirmsSo report rest number progress → IsWellFormed l → StartsWith rest l more → IsRight kb q texts candidates progress l
+  pub ConfirmsSo-more : (report rest more : List ℕ) (number : ℕ) (progress : Progress) (l : Line) → ConfirmsSo report rest number progress → IsWellFormed l
+      → StartsWith rest l more → IsRight kb q texts candidates progress l
       → ConfirmsSo report more (number + 1) (after progress l)
   ConfirmsSo-more report rest more number progress l h w s r = record {
     before = h.before ++ l ∷ [];
@@ -110,13 +119,18 @@ module _ (kb : Knowledge) (q : Query) (texts : List (List ℕ)) (candidates : Li
       let c = counts no_lines h.before in
       let cores : progress.cores ≡ (progress_of h.before).cores = ap (λ p. p.cores) h.amount in
       let answers : progress.answers ≡ (progress_of h.before).answers = ap (λ p. p.answers) h.amount in
-      let brave : progress.brave ≡ (progress_of h.before).brave = ap (λ p. p.brave) h.amount in
-      (omega (arith, size, few, h.numbered), omega (arith, c.0, cores, h.numbered), omega (arith, c.1, answers, h.numbered), omega (arith, c.2, brave, h.numbered))
+      let brave : progress.brave ≡ (progress_of h.before).brave = ap (λ p. p.brave) h.amount in (
+        omega (arith, size, few, h.numbered),
+        omega (arith, c.0, cores, h.numbered),
+        omega (arith, c.1, answers, h.numbered),
+        omega (arith, c.2, brave, h.numbered),
+      )
 
   -- THE FIRST BROKEN LINE
 
   -- a line that breaks a rule
-  breaks_broken : (before : List Line) (rest more : List ℕ) (l : Line) (r : Rule) → IsWellFormed l → StartsWith rest l more → Breaks kb q texts candidates (progress_of before) l r → IsBroken kb q texts candidates before rest r
+  breaks_broken : (before : List Line) (rest more : List ℕ) (l : Line) (r : Rule) → IsWellFormed l → StartsWith rest l more
+      → Breaks kb q texts candidates (progress_of before) l r → IsBroken kb q texts candidates before rest r
   breaks_broken before rest more l rule.Text w s b = absurd (never l b.1)
     where
       never : (l : Line) → rule_of l ≡ rule.Text → ⊥
@@ -143,7 +157,8 @@ module _ (kb : Knowledge) (q : Query) (texts : List (List ℕ)) (candidates : Li
 
   module _ (are : AreCandidates kb q candidates) where
     -- what is broken after what has been confirmed is the first that is
-    first_broken : (report rest : List ℕ) (number : ℕ) (progress : Progress) (r : Rule) → (h : ConfirmsSo report rest number progress) → IsBroken kb q texts candidates h.before rest r → IsFirstBroken kb texts q report number r
+    first_broken : (report rest : List ℕ) (number : ℕ) (progress : Progress) (r : Rule) → (h : ConfirmsSo report rest number progress)
+        → IsBroken kb q texts candidates h.before rest r → IsFirstBroken kb texts q report number r
     first_broken report rest number progress r h b = record {
       candidates = candidates;
       are_candidates = are;
@@ -156,18 +171,23 @@ module _ (kb : Knowledge) (q : Query) (texts : List (List ℕ)) (candidates : Li
       broken = b;
     }
 
-    pub broken_text : (report rest : List ℕ) (number : ℕ) (progress : Progress) → ConfirmsSo report rest number progress → ¬ (rest ≡ []) → ((l : Line) (more : List ℕ) → IsWellFormed l → ¬ StartsWith rest l more) → IsFirstBroken kb texts q report number rule.Text
+    pub broken_text : (report rest : List ℕ) (number : ℕ) (progress : Progress) → ConfirmsSo report rest number progress → ¬ (rest ≡ [])
+        → ((l : Line) (more : List ℕ) → IsWellFormed l → ¬ StartsWith rest l more) → IsFirstBroken kb texts q report number rule.Text
     broken_text report rest number progress h n none = first_broken report rest number progress rule.Text h (n, none)
 
-    pub broken_line : (report rest more : List ℕ) (number : ℕ) (progress : Progress) (l : Line) (r : Rule) → ConfirmsSo report rest number progress → IsWellFormed l → StartsWith rest l more → Breaks kb q texts candidates progress l r
+    pub broken_line : (report rest more : List ℕ) (number : ℕ) (progress : Progress) (l : Line) (r : Rule) → ConfirmsSo report rest number progress
+        → IsWellFormed l → StartsWith rest l more → Breaks kb q texts candidates progress l r
         → IsFirstBroken kb texts q report number r
-    broken_line report rest more number progress l r h w s b = first_broken report rest number progress r h (breaks_broken h.before rest more l r w s (subst (λ p. Breaks kb q texts candidates p l r) h.amount b))
+    broken_line report rest more number progress l r h w s b = first_broken report rest number progress r h
+        (breaks_broken h.before rest more l r w s (subst (λ p. Breaks kb q texts candidates p l r) h.amount b))
 
-    pub broken_end : (report rest : List ℕ) (number : ℕ) (progress : Progress) → ConfirmsSo report rest number progress → rest ≡ [] → ¬ (progress.last ≡ Some kind.End) → IsFirstBroken kb texts q report number rule.Missing
+    pub broken_end : (report rest : List ℕ) (number : ℕ) (progress : Progress) → ConfirmsSo report rest number progress → rest ≡ []
+        → ¬ (progress.last ≡ Some kind.End) → IsFirstBroken kb texts q report number rule.Missing
     broken_end report rest number progress h e n = first_broken report rest number progress rule.Missing h (e, λ x. n (ap (λ p. p.last) h.amount ∙ x))
 
     -- a report that has been confirmed to its end is accepted
-    pub accepted : (report rest : List ℕ) (number : ℕ) (progress : Progress) → ConfirmsSo report rest number progress → rest ≡ [] → progress.last ≡ Some kind.End → IsAccepted kb texts q report progress.answers
+    pub accepted : (report rest : List ℕ) (number : ℕ) (progress : Progress) → ConfirmsSo report rest number progress → rest ≡ []
+        → progress.last ≡ Some kind.End → IsAccepted kb texts q report progress.answers
     accepted report rest number progress h e last = record {
       candidates = candidates;
       are_candidates = are;

@@ -39,12 +39,14 @@ others_ascend : {X : Type 0} (R : X → X → Type 0) (x : X) (xs : List X) → 
 others_ascend R x xs h i j d l m = h (suc i) (suc j) d (omega arith) (omega arith)
 
 -- ascending lists of the same members are equal
-same_ascending : {X : Type 0} (R : X → X → Type 0) → ((a b : X) → R a b → R b a → ⊥) → (xs ys : List X) → AllPairs R xs → AllPairs R ys → ((z : X) → Contains xs z → Contains ys z) → ((z : X) → Contains ys z → Contains xs z) → xs ≡ ys
+same_ascending : {X : Type 0} (R : X → X → Type 0) → ((a b : X) → R a b → R b a → ⊥) → (xs ys : List X) → AllPairs R xs → AllPairs R ys
+    → ((z : X) → Contains xs z → Contains ys z) → ((z : X) → Contains ys z → Contains xs z) → xs ≡ ys
 same_ascending R once [] [] p q f g = refl
 same_ascending R once [] (y ∷ ys) p q f g = absurd (Contains-nil y (g y (Contains-head y ys)))
 same_ascending R once (x ∷ xs) [] p q f g = absurd (Contains-nil x (f x (Contains-head x xs)))
 same_ascending {X} R once (x ∷ xs) (y ∷ ys) p q f g =
-    ap (λ z. z ∷ xs) first ∙ ap (λ zs. y ∷ zs) (same_ascending R once xs ys (others_ascend R x xs p) (others_ascend R y ys q) (λ z c. down z c (Contains-cases y ys z (f z (Contains-later x xs z c)))) (λ z c. up z c (Contains-cases x xs z (g z (Contains-later y ys z c)))))
+    ap (λ z. z ∷ xs) first ∙ ap (λ zs. y ∷ zs) (same_ascending R once xs ys (others_ascend R x xs p) (others_ascend R y ys q)
+    (λ z c. down z c (Contains-cases y ys z (f z (Contains-later x xs z c)))) (λ z c. up z c (Contains-cases x xs z (g z (Contains-later y ys z c)))))
   where
     heads : (y ≡ x) ⊎ Contains ys x → (x ≡ y) ⊎ Contains xs y → x ≡ y
     heads (inl e) v = sym e
@@ -66,7 +68,8 @@ same_ascending {X} R once (x ∷ xs) (y ∷ ys) p q f g =
 pub same_candidates : (kb : Knowledge) (q : _) (xs ys : List (List ℕ)) → AreCandidates kb q xs → AreCandidates kb q ys → xs ≡ ys
 same_candidates kb q xs ys h k =
     same_ascending (λ a b. slice_cmp nat_cmp a b ≡ Less) less_once xs ys h.ascending k.ascending
-    (λ z c. k.complete z (All-contains (FactsEntail kb Every q) xs z h.entailed c)) (λ z c. h.complete z (All-contains (FactsEntail kb Every q) ys z k.entailed c))
+    (λ z c. k.complete z (All-contains (FactsEntail kb Every q) xs z h.entailed c))
+    (λ z c. h.complete z (All-contains (FactsEntail kb Every q) ys z k.entailed c))
 
 -- THE LIST OF THE TABLES
 
@@ -77,7 +80,8 @@ one_individual kb concept (t ∷ []) h = (t, refl)
 one_individual kb concept (t ∷ (s ∷ ts)) (k, (v, h, b)) = absurd h.1
 
 -- the individuals of the tables are the candidates
-pub candidates_of_tables : (kb : Knowledge) → All IsOfNames kb.axioms → All IsOfName kb.facts → (tables : Tables) → AreTables kb tables → AreCandidates kb (concept_query tables.concept) (tuples_of tables.candidates.items)
+pub candidates_of_tables : (kb : Knowledge) → All IsOfNames kb.axioms → All IsOfName kb.facts → (tables : Tables) → AreTables kb tables
+    → AreCandidates kb (concept_query tables.concept) (tuples_of tables.candidates.items)
 candidates_of_tables kb all_names all_facts tables h = record { entailed = entailed; complete = complete; ascending = ascending }
   where
     items : List ℕ
@@ -93,12 +97,14 @@ candidates_of_tables kb all_names all_facts tables h = record { entailed = entai
     entailed = All-from_get_or (FactsEntail kb Every (concept_query tables.concept)) (tuples_of items) [] (λ k l.
         let m : k < length items = subst (λ n. k < n) size l in
         subst (FactsEntail kb Every (concept_query tables.concept)) (sym (tuple_of k [] m))
-        ((verdicts_by_names kb all_names all_facts tables.concept (get_or items k 0)).candidate.1 ((h.candidates (get_or items k 0)).0 (Contains-get_or items k 0 m))))
+        ((verdicts_by_names kb all_names all_facts tables.concept (get_or items k 0)).candidate.1
+        ((h.candidates (get_or items k 0)).0 (Contains-get_or items k 0 m))))
 
     complete : (tuple : List ℕ) → FactsEntail kb Every (concept_query tables.concept) tuple → Contains (tuples_of items) tuple
     complete tuple f =
         let w = one_individual kb tables.concept tuple f in
-        let c = (h.candidates w.0).1 ((verdicts_by_names kb all_names all_facts tables.concept w.0).candidate.0 (subst (FactsEntail kb Every (concept_query tables.concept)) w.1 f)) in
+        let c = (h.candidates w.0).1 ((verdicts_by_names kb all_names all_facts tables.concept w.0).candidate.0
+        (subst (FactsEntail kb Every (concept_query tables.concept)) w.1 f)) in
         (c.0, subst (λ n. c.0 < n) (sym size) c.1, get_or-map (λ t. t ∷ []) items c.0 w.0 tuple c.1 ∙ ap (λ t. t ∷ []) c.2 ∙ sym w.1)
 
     ascending : AllPairs (λ a b. slice_cmp nat_cmp a b ≡ Less) (tuples_of items)
@@ -106,7 +112,8 @@ candidates_of_tables kb all_names all_facts tables h = record { entailed = entai
         let jl : j < length items = subst (λ n. j < n) size m in
         let il : i < length items = omega arith in
         subst (λ a. slice_cmp nat_cmp a (get_or (tuples_of items) j d) ≡ Less) (sym (tuple_of i d il))
-        (subst (λ b. slice_cmp nat_cmp (get_or items i 0 ∷ []) b ≡ Less) (sym (tuple_of j d jl)) (single (get_or items i 0) (get_or items j 0) (h.ascending i j 0 l jl)))
+        (subst (λ b. slice_cmp nat_cmp (get_or items i 0 ∷ []) b ≡ Less) (sym (tuple_of j d jl))
+        (single (get_or items i 0) (get_or items j 0) (h.ascending i j 0 l jl)))
       where
         single : (a b : ℕ) → a < b → slice_cmp nat_cmp (a ∷ []) (b ∷ []) ≡ Less
         single a b l = ap (λ o. ordering_then o Equal) (sym (nat_cmp_is a b Less l))

@@ -1,5 +1,6 @@
 -- Marks that spread along inclusions: one axiom, one pass, and all passes.
-use Rattle.std.proofs.Common.{◌≡◌, ℕ, zero, suc, ◌+◌, ◌<◌, ◌≤◌, ◌⊎◌, inl, inr, List, length, take, Contains, All, Bool, true, false, not, ◌||◌, cond, get_or, set, refl, sym, subst, ap, ◌∙◌, arith, true≢false, Some}
+use Rattle.std.proofs.Common.{◌≡◌, ℕ, zero, suc, ◌+◌, ◌<◌, ◌≤◌, ◌⊎◌, inl, inr, List, length, take, Contains, All, Bool, true, false, not, ◌||◌, cond, get_or}
+use Rattle.std.proofs.Common.{set, refl, sym, subst, ap, ◌∙◌, arith, true≢false, Some}
 use Rattle.std.proofs.lemmas.List.{length-set, take_all}
 use Rattle.std.proofs.lemmas.List.Elements.{All-more, All-contains, All-nil, Contains-get_or}
 use Rattle.std.proofs.lemmas.List.Sums.{sum_by-set}
@@ -21,12 +22,14 @@ Joins-itself Up axioms a = IsSubsumed-itself axioms a
 Joins-itself Down axioms a = IsSubsumed-itself axioms a
 
 -- two joins are one
-pub Joins-join : (direction : Direction) (axioms : List Axiom) (a b c : ℕ) → Joins direction axioms a b → Joins direction axioms b c → Joins direction axioms a c
+pub Joins-join : (direction : Direction) (axioms : List Axiom) (a b c : ℕ) → Joins direction axioms a b → Joins direction axioms b c
+    → Joins direction axioms a c
 Joins-join Up axioms a b c p q = IsSubsumed-join axioms a b p q.0 c q.1
 Joins-join Down axioms a b c p q = IsSubsumed-join axioms c b q p.0 a p.1
 
 -- a step joins
-pub Joins-of_step : (direction : Direction) (axioms : List Axiom) (rule : Axiom) (s : Step) → Contains axioms rule → step_of direction rule ≡ Some s → Joins direction axioms s.from s.to
+pub Joins-of_step : (direction : Direction) (axioms : List Axiom) (rule : Axiom) (s : Step) → Contains axioms rule → step_of direction rule ≡ Some s
+    → Joins direction axioms s.from s.to
 Joins-of_step Up axioms (Sub (Concept a) (Concept b)) s m e =
     let from : a ≡ s.from = cc in let to : b ≡ s.to = cc in
     subst (λ n. IsSubsumed axioms n s.to) from (subst (IsSubsumed axioms a) to (IsSubsumed-step axioms a a b (IsSubsumed-itself axioms a) m))
@@ -107,8 +110,12 @@ PassesSo-more direction axioms k d old mid new so true l h (s, is, within, from,
 
     joined : (b : ℕ) → (b ≡ s.to) ⊎ IsMarked mid b → (a : ℕ) × IsMarked old a × Joins direction axioms a b
     joined b (inl same) =
-        let w = h.joined s.from from in
-        (w.0, w.1, subst (Joins direction axioms w.0) (sym same) (Joins-join direction axioms w.0 s.from s.to w.2 (Joins-of_step direction axioms rule s here is)))
+        let w = h.joined s.from from in (
+          w.0,
+          w.1,
+          subst (Joins direction axioms w.0) (sym same) (Joins-join direction axioms w.0 s.from s.to w.2
+              (Joins-of_step direction axioms rule s here is)),
+        )
     joined b (inr m) = h.joined b m
 PassesSo-more direction axioms k d old mid new so false l h (e, followed) = record {
   size = ap length e ∙ h.size;
@@ -122,7 +129,8 @@ PassesSo-more direction axioms k d old mid new so false l h (e, followed) = reco
 }
 
 -- at its end
-pub PassesOver-all : (direction : Direction) (axioms : List Axiom) (k : ℕ) (old new : List Bool) (so : Bool) → length axioms ≤ k → PassesSo direction axioms k old new so → PassesOver direction axioms old new so
+pub PassesOver-all : (direction : Direction) (axioms : List Axiom) (k : ℕ) (old new : List Bool) (so : Bool) → length axioms ≤ k
+    → PassesSo direction axioms k old new so → PassesOver direction axioms old new so
 PassesOver-all direction axioms k old new so l h = record {
   size = h.size;
   kept = h.kept;
@@ -132,17 +140,20 @@ PassesOver-all direction axioms k old new so l h = record {
 }
 
 -- where every step has been followed, the joined names are marked
-followed_up : (axioms : List Axiom) (marks : List Bool) → All (IsFollowed Up marks) axioms → (n a b : ℕ) → IsMarked marks a → Includes axioms n a b → IsMarked marks b
+followed_up : (axioms : List Axiom) (marks : List Bool) → All (IsFollowed Up marks) axioms → (n a b : ℕ) → IsMarked marks a → Includes axioms n a b
+    → IsMarked marks b
 followed_up axioms marks all zero a b m e = subst (IsMarked marks) e m
 followed_up axioms marks all (suc n) a b m (c, i, member) =
     All-contains (IsFollowed Up marks) axioms (Sub (Concept c) (Concept b)) all member (followed_up axioms marks all n a c m i)
 
-followed_down : (axioms : List Axiom) (marks : List Bool) → All (IsFollowed Down marks) axioms → (n a b : ℕ) → IsMarked marks b → Includes axioms n a b → IsMarked marks a
+followed_down : (axioms : List Axiom) (marks : List Bool) → All (IsFollowed Down marks) axioms → (n a b : ℕ) → IsMarked marks b → Includes axioms n a b
+    → IsMarked marks a
 followed_down axioms marks all zero a b m e = subst (IsMarked marks) (sym e) m
 followed_down axioms marks all (suc n) a b m (c, i, member) =
     followed_down axioms marks all n a c (All-contains (IsFollowed Down marks) axioms (Sub (Concept c) (Concept b)) all member m) i
 
-followed : (direction : Direction) (axioms : List Axiom) (marks : List Bool) → All (IsFollowed direction marks) axioms → (a b : ℕ) → IsMarked marks a → Joins direction axioms a b → IsMarked marks b
+followed : (direction : Direction) (axioms : List Axiom) (marks : List Bool) → All (IsFollowed direction marks) axioms → (a b : ℕ) → IsMarked marks a
+    → Joins direction axioms a b → IsMarked marks b
 followed Up axioms marks all a b m j = followed_up axioms marks all j.0 a b m j.1
 followed Down axioms marks all a b m j = followed_down axioms marks all j.0 b a m j.1
 
@@ -155,14 +166,16 @@ pub record ClosesSo (direction : Direction) (axioms : List Axiom) (old new : Lis
 pub ClosesSo-none : (direction : Direction) (axioms : List Axiom) (marks : List Bool) → ClosesSo direction axioms marks marks
 ClosesSo-none direction axioms marks = record { size = refl; kept = λ b m. m; joined = λ b m. (b, m, Joins-itself direction axioms b) }
 
-pub ClosesSo-more : (direction : Direction) (axioms : List Axiom) (old mid new : List Bool) (b : Bool) → ClosesSo direction axioms old mid → PassesOver direction axioms mid new b → ClosesSo direction axioms old new
+pub ClosesSo-more : (direction : Direction) (axioms : List Axiom) (old mid new : List Bool) (b : Bool) → ClosesSo direction axioms old mid
+    → PassesOver direction axioms mid new b → ClosesSo direction axioms old new
 ClosesSo-more direction axioms old mid new b h p = record {
   size = p.size ∙ h.size;
   kept = λ x m. p.kept x (h.kept x m);
   joined = λ x m. let w = p.joined x m in let v = h.joined w.0 w.1 in (v.0, v.1, Joins-join direction axioms v.0 w.0 x v.2 w.2);
 }
 
-pub IsClosure-all : (direction : Direction) (axioms : List Axiom) (old mid new : List Bool) → ClosesSo direction axioms old mid → PassesOver direction axioms mid new false → IsClosure direction axioms old new
+pub IsClosure-all : (direction : Direction) (axioms : List Axiom) (old mid new : List Bool) → ClosesSo direction axioms old mid
+    → PassesOver direction axioms mid new false → IsClosure direction axioms old new
 IsClosure-all direction axioms old mid new h p =
     let all = ClosesSo-more direction axioms old mid new false h p in
     record {

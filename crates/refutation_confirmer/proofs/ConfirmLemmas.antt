@@ -28,7 +28,11 @@ use Rattle.refutation_confirmer.proofs.TruthLemmas.{true_report}
 module _ (kb : Knowledge) (texts : List (List ℕ)) (q : Query) (report : List ℕ) where
   -- of an accepted report the answer yes is right
   pub yes_yes : (n : ℕ) → IsAccepted kb texts q report n → (answers : ℕ) → (Yes n ≡ Yes answers) ↔ IsAccepted kb texts q report answers
-  yes_yes n a answers = (λ e. let same : n ≡ answers = cc e in subst (IsAccepted kb texts q report) same a, λ b. ap Yes (one_number kb texts q report n answers a b))
+  yes_yes n a answers = (
+    λ e. let same : n ≡ answers = cc e in
+        subst (IsAccepted kb texts q report) same a,
+    λ b. ap Yes (one_number kb texts q report n answers a b),
+  )
 
   -- and the answer no is not
   pub yes_no : (n : ℕ) → IsAccepted kb texts q report n → (line : ℕ) (rule : Rule) → (Yes n ≡ No line rule) ↔ IsFirstBroken kb texts q report line rule
@@ -39,7 +43,8 @@ module _ (kb : Knowledge) (texts : List (List ℕ)) (q : Query) (report : List �
   no_yes m r b answers = (λ e. cc e, λ a. absurd (not_both kb texts q report answers m r a b))
 
   -- and the answer no is right
-  pub no_no : (m : ℕ) (r : Rule) → IsFirstBroken kb texts q report m r → (line : ℕ) (rule : Rule) → (No m r ≡ No line rule) ↔ IsFirstBroken kb texts q report line rule
+  pub no_no : (m : ℕ) (r : Rule) → IsFirstBroken kb texts q report m r → (line : ℕ) (rule : Rule) → (No m r ≡ No line rule)
+      ↔ IsFirstBroken kb texts q report line rule
   no_no m r b line rule = (there, back)
     where
       there : No m r ≡ No line rule → IsFirstBroken kb texts q report line rule
@@ -58,7 +63,9 @@ empty_of : (xs : List ℕ) → length xs ≡ 0 → xs ≡ []
 empty_of [] e = refl
 empty_of (x ∷ xs) e = absurd (omega (arith, e))
 
-module _ (kb : Knowledge) (texts : List (List ℕ)) (q : Query) (report : List ℕ) (all_names : All IsOfNames kb.axioms) (all_facts : All IsOfName kb.facts) (concept : ℕ) (asked : q ≡ concept_query concept) (tables : Tables) (for : IsFor kb concept tables) (rest : List ℕ) (number : ℕ) (progress : Progress) (so : ConfirmsSo kb (concept_query tables.concept) texts (tuples_of tables.candidates.items) report rest number progress) where
+module _ (kb : Knowledge) (texts : List (List ℕ)) (q : Query) (report : List ℕ) (all_names : All IsOfNames kb.axioms) (all_facts : All IsOfName kb.facts)
+    (concept : ℕ) (asked : q ≡ concept_query concept) (tables : Tables) (for : IsFor kb concept tables) (rest : List ℕ) (number : ℕ) (progress : Progress)
+    (so : ConfirmsSo kb (concept_query tables.concept) texts (tuples_of tables.candidates.items) report rest number progress) where
   same_query : concept_query tables.concept ≡ q
   same_query = ap concept_query for.0 ∙ sym asked
 
@@ -66,12 +73,15 @@ module _ (kb : Knowledge) (texts : List (List ℕ)) (q : Query) (report : List �
   are = candidates_of_tables kb all_names all_facts tables for.1
 
   -- what follows is the text of no line
-  pub stops_at_text : 0 < length rest → ((l : Line) (more : List ℕ) → IsWellFormed l → ¬ StartsWith rest l more) → IsFirstBroken kb texts q report number rule.Text
+  pub stops_at_text : 0 < length rest → ((l : Line) (more : List ℕ) → IsWellFormed l → ¬ StartsWith rest l more)
+      → IsFirstBroken kb texts q report number rule.Text
   stops_at_text some none = subst (λ p. IsFirstBroken kb texts p report number rule.Text) same_query
-      (broken_text kb (concept_query tables.concept) texts (tuples_of tables.candidates.items) are report rest number progress so (λ e. omega (arith, some, ap length e)) none)
+      (broken_text kb (concept_query tables.concept) texts (tuples_of tables.candidates.items) are report rest number progress so
+      (λ e. omega (arith, some, ap length e)) none)
 
   -- the next line breaks a rule
-  pub stops_at_line : (more : List ℕ) (l : Line) (r : Rule) → IsWellFormed l → StartsWith rest l more → Breaks kb (concept_query tables.concept) texts (tuples_of tables.candidates.items) progress l r → IsFirstBroken kb texts q report number r
+  pub stops_at_line : (more : List ℕ) (l : Line) (r : Rule) → IsWellFormed l → StartsWith rest l more
+      → Breaks kb (concept_query tables.concept) texts (tuples_of tables.candidates.items) progress l r → IsFirstBroken kb texts q report number r
   stops_at_line more l r w s b = subst (λ p. IsFirstBroken kb texts p report number r) same_query
       (broken_line kb (concept_query tables.concept) texts (tuples_of tables.candidates.items) are report rest more number progress l r so w s b)
 
@@ -86,7 +96,8 @@ module _ (kb : Knowledge) (texts : List (List ℕ)) (q : Query) (report : List �
       (accepted kb (concept_query tables.concept) texts (tuples_of tables.candidates.items) are report rest number progress so (empty_of rest none) last)
 
 -- and then it is true
-pub yes_true : (kb : Knowledge) (texts : List (List ℕ)) (q : Query) (report : List ℕ) → All IsOfNames kb.axioms → All IsOfName kb.facts → (concept : ℕ) → q ≡ concept_query concept → (n : ℕ) → IsAccepted kb texts q report n → (answers : ℕ) → Yes n ≡ Yes answers → IsTrueReport kb q report answers
+pub yes_true : (kb : Knowledge) (texts : List (List ℕ)) (q : Query) (report : List ℕ) → All IsOfNames kb.axioms → All IsOfName kb.facts → (concept : ℕ)
+    → q ≡ concept_query concept → (n : ℕ) → IsAccepted kb texts q report n → (answers : ℕ) → Yes n ≡ Yes answers → IsTrueReport kb q report answers
 yes_true kb texts q report all_names all_facts concept asked n a answers e =
     let same : n ≡ answers = cc e in
     let here = subst (λ p. IsAccepted kb texts p report answers) asked (subst (IsAccepted kb texts q report) same a) in

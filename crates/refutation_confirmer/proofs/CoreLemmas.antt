@@ -1,5 +1,6 @@
 -- Facts that clash, and cores by them.
-use Rattle.std.proofs.Common.{◌≡◌, ℕ, ◌<◌, ◌⊎◌, ◌↔◌, inl, inr, List, [], ◌∷◌, ◌++◌, length, Contains, All, Bool, true, false, not, ◌&&◌, ◌||◌, ◌==◌, get_or, refl, sym, subst, ap, ◌∙◌, arith, true≢false, replicate, slice_get, Some, eqb-true, eq-eqb, IsTrue}
+use Rattle.std.proofs.Common.{◌≡◌, ℕ, ◌<◌, ◌⊎◌, ◌↔◌, inl, inr, List, [], ◌∷◌, ◌++◌, length, Contains, All, Bool, true, false, not, ◌&&◌, ◌||◌, ◌==◌, get_or}
+use Rattle.std.proofs.Common.{refl, sym, subst, ap, ◌∙◌, arith, true≢false, replicate, slice_get, Some, eqb-true, eq-eqb, IsTrue}
 use Rattle.std.proofs.lemmas.Bool.{cases_Bool, or_cases}
 use Rattle.std.proofs.lemmas.List.Elements.{All-contains, All-from_get_or, Contains-get_or, Contains-push, Contains-push_cases, Contains-append_left}
 use Rattle.std.proofs.lemmas.Option.{get_or_from_slice_get, slice_get_within, slice_get-get_or}
@@ -25,7 +26,8 @@ use Rattle.refutation_confirmer.proofs.NameLemmas.{none-replicate}
 -- FACTS OF AN INDIVIDUAL AND A MARKED NAME
 
 -- the test tells them
-pub marked_at : (facts : List Fact) (t : ℕ) (marks : List Bool) (j : ℕ) (f : Fact) → slice_get facts j ≡ Some f → (is_of_marked_at t marks f ≡ true) ↔ IsOfMarkedAt facts t marks j
+pub marked_at : (facts : List Fact) (t : ℕ) (marks : List Bool) (j : ℕ) (f : Fact) → slice_get facts j ≡ Some f → (is_of_marked_at t marks f ≡ true)
+    ↔ IsOfMarkedAt facts t marks j
 marked_at facts t marks j (fact.Concept b s) e = (to, from)
   where
     to : (s == t && get_or marks b false) ≡ true → IsOfMarkedAt facts t marks j
@@ -56,7 +58,8 @@ pub HasClash-none : (kb : Knowledge) (old : List Bool) (j : ℕ) → IsMarked ol
 HasClash-none kb old j = (inl, λ w. elim w [ inl m ↦ m | inr v ↦ absurd (omega (arith, v.1.1)) ])
 
 -- with one more fact
-pub HasClash-more : (kb : Knowledge) (kept : List ℕ) (i : ℕ) (old mid new : List Bool) → ((j : ℕ) → IsMarked mid j ↔ (IsMarked old j ⊎ HasClash kb kept j)) → ((j : ℕ) → IsMarked new j ↔ (IsMarked mid j ⊎ Clashes kb i j))
+pub HasClash-more : (kb : Knowledge) (kept : List ℕ) (i : ℕ) (old mid new : List Bool) → ((j : ℕ) → IsMarked mid j ↔ (IsMarked old j ⊎ HasClash kb kept j))
+    → ((j : ℕ) → IsMarked new j ↔ (IsMarked mid j ⊎ Clashes kb i j))
     → (j : ℕ) → IsMarked new j ↔ (IsMarked old j ⊎ HasClash kb (kept ++ i ∷ []) j)
 HasClash-more kb kept i old mid new h step j = ((λ m. to ((step j).0 m)), λ w. (step j).1 (from w))
   where
@@ -76,7 +79,8 @@ HasClash-more kb kept i old mid new h step j = ((λ m. to ((step j).0 m)), λ w.
     ]
 
 -- over a table without a mark
-pub clashes_alone : (kb : Knowledge) (kept : List ℕ) (new : List Bool) (n : ℕ) → ((j : ℕ) → IsMarked new j ↔ (IsMarked (replicate n false) j ⊎ HasClash kb kept j)) → (j : ℕ) → IsMarked new j ↔ HasClash kb kept j
+pub clashes_alone : (kb : Knowledge) (kept : List ℕ) (new : List Bool) (n : ℕ)
+    → ((j : ℕ) → IsMarked new j ↔ (IsMarked (replicate n false) j ⊎ HasClash kb kept j)) → (j : ℕ) → IsMarked new j ↔ HasClash kb kept j
 clashes_alone kb kept new n h j = ((λ m. to ((h j).0 m)), (λ w. (h j).1 (inr w)))
   where
     to : IsMarked (replicate n false) j ⊎ HasClash kb kept j → HasClash kb kept j
@@ -84,7 +88,8 @@ clashes_alone kb kept new n h j = ((λ m. to ((h j).0 m)), (λ w. (h j).1 (inr w
     to (inr w) = w
 
 -- the facts that clash with a fact of a concept name
-pub clashes_of : (kb : Knowledge) (i a t : ℕ) (meeting old new : List Bool) → slice_get kb.facts i ≡ Some (fact.Concept a t) → ((b : ℕ) → IsMarked meeting b ↔ Meets kb.axioms a b)
+pub clashes_of : (kb : Knowledge) (i a t : ℕ) (meeting old new : List Bool) → slice_get kb.facts i ≡ Some (fact.Concept a t)
+    → ((b : ℕ) → IsMarked meeting b ↔ Meets kb.axioms a b)
     → ((j : ℕ) → IsMarked new j ↔ (IsMarked old j ⊎ IsOfMarkedAt kb.facts t meeting j)) → (j : ℕ) → IsMarked new j ↔ (IsMarked old j ⊎ Clashes kb i j)
 clashes_of kb i a t meeting old new e met h j = ((λ m. to ((h j).0 m)), λ w. (h j).1 (from w))
   where
@@ -100,7 +105,8 @@ clashes_of kb i a t meeting old new e met h j = ((λ m. to ((h j).0 m)), λ w. (
         inr (d, is ∙ ap (λ z. Some (fact.Concept d z)) (sym individual), (met d).1 (subst (λ z. Meets kb.axioms z d) (sym name) m))
 
 -- and with a link none clashes
-pub clashes_of_link : (kb : Knowledge) (i : ℕ) (f : Fact) (old : List Bool) → slice_get kb.facts i ≡ Some f → ((a t : ℕ) → f ≡ fact.Concept a t → ⊥) → (j : ℕ) → IsMarked old j ↔ (IsMarked old j ⊎ Clashes kb i j)
+pub clashes_of_link : (kb : Knowledge) (i : ℕ) (f : Fact) (old : List Bool) → slice_get kb.facts i ≡ Some f → ((a t : ℕ) → f ≡ fact.Concept a t → ⊥) → (j : ℕ)
+    → IsMarked old j ↔ (IsMarked old j ⊎ Clashes kb i j)
 clashes_of_link kb i f old e other j = (inl, λ w. elim w [ inl m ↦ m | inr v ↦ absurd (none v) ])
   where
     none : Clashes kb i j → ⊥
@@ -169,7 +175,8 @@ module _ (kb : Knowledge) (all_names : All IsOfNames kb.axioms) (all_facts : All
   pub tells : TellsIncluded kb included
   tells i a c b e = (subsumed_sound kb.axioms a b, subsumed_complete kb.axioms a b)
 
-  pub tell : TellConflicts kb (λ i. own_test included kb.axioms (slice_get kb.facts i)) (λ i j. clash_test included kb.axioms (slice_get kb.facts i) (slice_get kb.facts j))
+  pub tell : TellConflicts kb (λ i. own_test included kb.axioms (slice_get kb.facts i))
+      (λ i j. clash_test included kb.axioms (slice_get kb.facts i) (slice_get kb.facts j))
   tell = names_tell kb (λ rule m. All-contains IsOfNames kb.axioms rule all_names m) fact_of included tells
 
   -- each fact is of a concept name
@@ -191,14 +198,16 @@ module _ (kb : Knowledge) (all_names : All IsOfNames kb.axioms) (all_facts : All
       ((λ s. meets_sound kb.axioms a a (sym same ∙ o.1 s)), (λ m. o.0 (same ∙ meets_complete kb.axioms a a m)))
 
   clash_is : (i j a t b s : ℕ) → slice_get kb.facts i ≡ Some (fact.Concept a t) → slice_get kb.facts j ≡ Some (fact.Concept b s)
-      → clash_test included kb.axioms (slice_get kb.facts i) (slice_get kb.facts j) ≡ (t == s && (not (meets included kb.axioms a a) && (not (meets included kb.axioms b b) && meets included kb.axioms a b)))
+      → clash_test included kb.axioms (slice_get kb.facts i) (slice_get kb.facts j)
+      ≡ (t == s && (not (meets included kb.axioms a a) && (not (meets included kb.axioms b b) && meets included kb.axioms a b)))
   clash_is i j a t b s e f = ap (λ o. clash_test included kb.axioms o (slice_get kb.facts j)) e ∙ ap (clash_test included kb.axioms (Some (fact.Concept a t))) f
 
   -- facts in conflict clash
   pub clash_from_conflict : (i j : ℕ) → i < length kb.facts → j < length kb.facts → Conflict kb i j → Clashes kb i j
   clash_from_conflict i j il jl w = go (fact_at i il) (fact_at j jl)
     where
-      go : (a : ℕ) × (t : ℕ) × (slice_get kb.facts i ≡ Some (fact.Concept a t)) → (b : ℕ) × (s : ℕ) × (slice_get kb.facts j ≡ Some (fact.Concept b s)) → Clashes kb i j
+      go : (a : ℕ) × (t : ℕ) × (slice_get kb.facts i ≡ Some (fact.Concept a t)) → (b : ℕ) × (s : ℕ) × (slice_get kb.facts j ≡ Some (fact.Concept b s))
+          → Clashes kb i j
       go (a, t, e) (b, s, f) =
           let test = sym (clash_is i j a t b s e f) ∙ (tell.clash_iff i j il jl).1 w in
           let p = and_both (t == s) (not (meets included kb.axioms a a) && (not (meets included kb.axioms b b) && meets included kb.axioms a b)) test in
@@ -218,7 +227,8 @@ module _ (kb : Knowledge) (all_names : All IsOfNames kb.axioms) (all_facts : All
       (tell.clash_iff i j (slice_get_within kb.facts i (fact.Concept a t) e) (slice_get_within kb.facts j (fact.Concept b t) f)).0 (
       clash_is i j a t b t e f
       ∙ and_true (t == t) (not (meets included kb.axioms a a) && (not (meets included kb.axioms b b) && meets included kb.axioms a b)) (eq-eqb t t refl)
-      (and_true (not (meets included kb.axioms a a)) (not (meets included kb.axioms b b) && meets included kb.axioms a b) (not_met a (λ x. ni ((own i a t e).1 x)))
+      (and_true (not (meets included kb.axioms a a)) (not (meets included kb.axioms b b) && meets included kb.axioms a b)
+      (not_met a (λ x. ni ((own i a t e).1 x)))
       (and_true (not (meets included kb.axioms b b)) (meets included kb.axioms a b) (not_met b (λ x. nj ((own j b t f).1 x))) (meets_complete kb.axioms a b m)))
       )
 
@@ -229,8 +239,10 @@ module _ (kb : Knowledge) (all_names : All IsOfNames kb.axioms) (all_facts : All
     | inr f ↦ inr (λ s. true≢false (sym ((tell.own_iff i l).1 s) ∙ f))
   ]
 
-  module _ (kept dropped : List ℕ) (kept_in : All (λ i. i < length kb.facts) kept) (dropped_in : All (λ i. i < length kb.facts) dropped) (clashing inconsistent : List Bool)
-      (clash : (j : ℕ) → IsMarked clashing j ↔ HasClash kb kept j) (broken : (i : ℕ) → IsMarked inconsistent i ↔ ((a : ℕ) × (t : ℕ) × (slice_get kb.facts i ≡ Some (fact.Concept a t)) × Meets kb.axioms a a)) where
+  module _ (kept dropped : List ℕ) (kept_in : All (λ i. i < length kb.facts) kept) (dropped_in : All (λ i. i < length kb.facts) dropped)
+      (clashing inconsistent : List Bool)
+      (clash : (j : ℕ) → IsMarked clashing j ↔ HasClash kb kept j)
+      (broken : (i : ℕ) → IsMarked inconsistent i ↔ ((a : ℕ) × (t : ℕ) × (slice_get kb.facts i ≡ Some (fact.Concept a t)) × Meets kb.axioms a a)) where
     -- the three tests
     pub record PassesTests : Type 0 where
       pub none_kept : All (λ i. ¬ IsMarked clashing i) kept
@@ -285,7 +297,9 @@ module _ (kb : Knowledge) (all_names : All IsOfNames kb.axioms) (all_facts : All
     tests_from_core core = record {
       none_kept = All-from_contains (λ i. ¬ IsMarked clashing i) kept (λ i c m. none i c ((clash i).0 m));
       all_dropped = λ j m. drop j ((clash j).0 m);
-      each_reason = All-from_contains (λ i. IsMarked clashing i ⊎ IsMarked inconsistent i) dropped (λ j c. reason j (All-contains (λ i. i < length kb.facts) dropped j dropped_in c) (core.blocked j (All-contains (λ i. i < length kb.facts) dropped j dropped_in c) (contains_is_in dropped j c)));
+      each_reason = All-from_contains (λ i. IsMarked clashing i ⊎ IsMarked inconsistent i) dropped
+          (λ j c. reason j (All-contains (λ i. i < length kb.facts) dropped j dropped_in c)
+          (core.blocked j (All-contains (λ i. i < length kb.facts) dropped j dropped_in c) (contains_is_in dropped j c)));
     }
       where
         free : IsConflictFree kb (In (is_in kept))
@@ -308,15 +322,19 @@ module _ (kb : Knowledge) (all_names : All IsOfNames kb.axioms) (all_facts : All
                 let t = contains_is_in kept i c in
                 inr (is_in_contains dropped j (core.drops i j (inside i t) jl t (conflict_from_clash i j w (free.own i (inside i t) t) n)))
 
-        reason : (j : ℕ) → j < length kb.facts → IsSelfInconsistent kb j ⊎ ((i : ℕ) × (i < length kb.facts) × IsTrue (is_in kept i) × Conflict kb j i × ¬ IsBetter kb repairs.All j i)
+        reason : (j : ℕ) → j < length kb.facts → IsSelfInconsistent kb j
+            ⊎ ((i : ℕ) × (i < length kb.facts) × IsTrue (is_in kept i) × Conflict kb j i × ¬ IsBetter kb repairs.All j i)
             → IsMarked clashing j ⊎ IsMarked inconsistent j
         reason j jl (inl s) = inr (own_broken j jl s)
         reason j jl (inr (i, il, t, w, b)) = inl ((clash j).1 (i, is_in_contains kept i t, clash_from_conflict i j il jl (Conflict-sym kb j i w)))
 
     -- so their conjunction tells a core
-    pub core_by_tests : (a b e : Bool) → (IsTrue a ↔ All (λ i. ¬ IsMarked clashing i) kept) → (IsTrue b ↔ ((j : ℕ) → IsMarked clashing j → IsMarked inconsistent j ⊎ Contains dropped j))
-        → (IsTrue e ↔ All (λ i. IsMarked clashing i ⊎ IsMarked inconsistent i) dropped) → IsTrue ((a && b) && e) ↔ IsCore kb repairs.All (is_in kept) (is_in dropped)
+    pub core_by_tests : (a b e : Bool) → (IsTrue a ↔ All (λ i. ¬ IsMarked clashing i) kept)
+        → (IsTrue b ↔ ((j : ℕ) → IsMarked clashing j → IsMarked inconsistent j ⊎ Contains dropped j))
+        → (IsTrue e ↔ All (λ i. IsMarked clashing i ⊎ IsMarked inconsistent i) dropped) → IsTrue ((a && b) && e)
+        ↔ IsCore kb repairs.All (is_in kept) (is_in dropped)
     core_by_tests a b e first second third = (
-      λ t. let w = and_both (a && b) e t in let v = and_both a b w.0 in core_from_tests (record { none_kept = first.0 v.0; all_dropped = second.0 v.1; each_reason = third.0 w.1 }),
+      λ t. let w = and_both (a && b) e t in let v = and_both a b w.0 in
+          core_from_tests (record { none_kept = first.0 v.0; all_dropped = second.0 v.1; each_reason = third.0 w.1 }),
       λ core. let h = tests_from_core core in and_true (a && b) e (and_true a b (first.1 h.none_kept) (second.1 h.all_dropped)) (third.1 h.each_reason),
     )

@@ -1,5 +1,6 @@
 -- Marks after a write.
-use Rattle.std.proofs.Common.{◌≡◌, ◌≢◌, ℕ, ◌<◌, ◌≤◌, ◌⊎◌, ◌↔◌, inl, inr, List, [], ◌∷◌, ◌++◌, length, Contains, ◌+◌, ◌&&◌, not, Bool, true, false, get_or, set, refl, sym, subst, ◌∙◌, arith, true≢false}
+use Rattle.std.proofs.Common.{◌≡◌, ◌≢◌, ℕ, ◌<◌, ◌≤◌, ◌⊎◌, ◌↔◌, inl, inr, List, [], ◌∷◌, ◌++◌, length, Contains, ◌+◌, ◌&&◌, not, Bool, true, false, get_or}
+use Rattle.std.proofs.Common.{set, refl, sym, subst, ◌∙◌, arith, true≢false}
 use Rattle.std.proofs.lemmas.Bool.{cases_eq, cases_lt}
 use Rattle.std.proofs.lemmas.List.{get_or-set_same, get_or-set_other, get_or_past, get_or_default}
 use Rattle.std.proofs.lemmas.List.Elements.{Contains-append_left, Contains-push, Contains-push_cases}
@@ -43,7 +44,8 @@ AreMarkedBelow-none marks = record {
   ascending = λ i j d l m. absurd (omega (arith, m));
 }
 
-pub AreMarkedBelow-yes : (n : ℕ) (marks : List Bool) (places : List ℕ) → get_or marks n false ≡ true → AreMarkedBelow n marks places → AreMarkedBelow (n + 1) marks (places ++ n ∷ [])
+pub AreMarkedBelow-yes : (n : ℕ) (marks : List Bool) (places : List ℕ) → get_or marks n false ≡ true → AreMarkedBelow n marks places
+    → AreMarkedBelow (n + 1) marks (places ++ n ∷ [])
 AreMarkedBelow-yes n marks places here h = record {
   exact = λ k. ((λ c. to k (Contains-push_cases places n k c)), λ w. from k w.0 w.1 (cases_eq k n));
   ascending = all_pairs_push (λ i j. i < j) places n h.ascending (λ k d l. ((h.exact (get_or places k d)).0 (k, l, inside k d l)).0);
@@ -60,7 +62,8 @@ AreMarkedBelow-yes n marks places here h = record {
     from k l m (inl e) = subst (Contains (places ++ n ∷ [])) (sym e) (Contains-push places n)
     from k l m (inr e) = Contains-append_left places (n ∷ []) k ((h.exact k).1 (omega arith, m))
 
-pub AreMarkedBelow-no : (n : ℕ) (marks : List Bool) (places : List ℕ) → get_or marks n false ≡ false → AreMarkedBelow n marks places → AreMarkedBelow (n + 1) marks places
+pub AreMarkedBelow-no : (n : ℕ) (marks : List Bool) (places : List ℕ) → get_or marks n false ≡ false → AreMarkedBelow n marks places
+    → AreMarkedBelow (n + 1) marks places
 AreMarkedBelow-no n marks places here h = record {
   exact = λ k. ((λ c. let w = (h.exact k).0 c in (omega (arith, w.0), w.1)), λ w. from k w.0 w.1 (cases_eq k n));
   ascending = h.ascending;
@@ -84,7 +87,8 @@ and_not false true = ((λ e. absurd (true≢false (sym e))), λ w. absurd (true�
 and_not false false = ((λ e. absurd (true≢false (sym e))), λ w. absurd (true≢false (sym w.0)))
 
 -- what is left by such conjunctions, place by place
-pub marks_left : (n : ℕ) (marks others left : List Bool) → length left ≡ n → length marks ≡ n → ((j : ℕ) → j < n → get_or left j false ≡ (get_or marks j false && not (get_or others j false)))
+pub marks_left : (n : ℕ) (marks others left : List Bool) → length left ≡ n → length marks ≡ n
+    → ((j : ℕ) → j < n → get_or left j false ≡ (get_or marks j false && not (get_or others j false)))
     → (k : ℕ) → IsMarked left k ↔ (IsMarked marks k × ¬ IsMarked others k)
 marks_left n marks others left size same each k =
     let test = and_not (get_or marks k false) (get_or others k false) in (

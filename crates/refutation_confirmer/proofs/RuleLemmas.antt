@@ -1,5 +1,6 @@
 -- What the tests of a line say of the rules.
-use Rattle.std.proofs.Common.{◌≡◌, ℕ, ◌<◌, ◌≤◌, ◌↔◌, inl, inr, List, [], ◌∷◌, length, map, All, Bool, false, get_or, refl, sym, subst, ap, ◌∙◌, arith, true≢false, slice_get, ◌&&◌, Option, Some, None, option_map, IsTrue, String, Global, string_bytes}
+use Rattle.std.proofs.Common.{◌≡◌, ℕ, ◌<◌, ◌≤◌, ◌↔◌, inl, inr, List, [], ◌∷◌, length, map, All, Bool, false, get_or, refl, sym, subst, ap, ◌∙◌, arith}
+use Rattle.std.proofs.Common.{true≢false, slice_get, ◌&&◌, Option, Some, None, option_map, IsTrue, String, Global, string_bytes}
 use Rattle.std.specs.Str.{bytes_eq}
 use Rattle.std.proofs.lemmas.Slice.Eq.{bytes_eq-Decides}
 use Rattle.std.proofs.lemmas.List.Elements.{All-contains, All-get_or, All-from_get_or, Contains-get_or}
@@ -34,7 +35,8 @@ pub tuple_at : (candidates : List ℕ) (k t : ℕ) → slice_get candidates k �
 tuple_at candidates k t e = slice_get-map (λ t. t ∷ []) candidates k ∙ ap (option_map (λ t. t ∷ [])) e
 
 -- and back
-pub candidate_at : (candidates : List ℕ) (k : ℕ) (tuple : List ℕ) → slice_get (tuples_of candidates) k ≡ Some tuple → (t : ℕ) × (slice_get candidates k ≡ Some t) × (tuple ≡ t ∷ [])
+pub candidate_at : (candidates : List ℕ) (k : ℕ) (tuple : List ℕ) → slice_get (tuples_of candidates) k ≡ Some tuple → (t : ℕ)
+    × (slice_get candidates k ≡ Some t) × (tuple ≡ t ∷ [])
 candidate_at candidates k tuple e = by (slice_get candidates k) refl (sym (slice_get-map (λ t. t ∷ []) candidates k) ∙ e)
   where
     by : (o : Option ℕ) → slice_get candidates k ≡ o → option_map (λ t. t ∷ []) o ≡ Some tuple → (t : ℕ) × (slice_get candidates k ≡ Some t) × (tuple ≡ t ∷ [])
@@ -42,17 +44,22 @@ candidate_at candidates k tuple e = by (slice_get candidates k) refl (sym (slice
     by (Some t) is e = let same : t ∷ [] ≡ tuple = cc e in (t, is, sym same)
 
 -- each candidate has a text
-pub candidates_within : (kb : Knowledge) (tables : Tables) (n : ℕ) → AreTables kb tables → AreIndividualsWithin n kb.facts → All (λ t. t < n) tables.candidates.items
-candidates_within kb tables n h all = All-from_get_or (λ t. t < n) tables.candidates.items 0 (λ k l. go (get_or tables.candidates.items k 0) ((h.candidates (get_or tables.candidates.items k 0)).0 (Contains-get_or tables.candidates.items k 0 l)))
+pub candidates_within : (kb : Knowledge) (tables : Tables) (n : ℕ) → AreTables kb tables → AreIndividualsWithin n kb.facts
+    → All (λ t. t < n) tables.candidates.items
+candidates_within kb tables n h all = All-from_get_or (λ t. t < n) tables.candidates.items 0
+    (λ k l. go (get_or tables.candidates.items k 0) ((h.candidates (get_or tables.candidates.items k 0)).0 (Contains-get_or tables.candidates.items k 0 l)))
   where
     go : (t : ℕ) → (i : ℕ) × PutsInto kb tables.concept t i → t < n
-    go t (i, (a, e, s)) = subst (IsIndividualWithin n) (get_or_from_slice_get kb.facts i (fact.Concept a t) (fact.Concept a t) e) (All-get_or (IsIndividualWithin n) kb.facts i (fact.Concept a t) (slice_get_within kb.facts i (fact.Concept a t) e) all)
+    go t (i, (a, e, s)) = subst (IsIndividualWithin n) (get_or_from_slice_get kb.facts i (fact.Concept a t) (fact.Concept a t) e)
+        (All-get_or (IsIndividualWithin n) kb.facts i (fact.Concept a t) (slice_get_within kb.facts i (fact.Concept a t) e) all)
 
 -- REASONS
 
 -- what the test of the kept facts says
-pub reason_told : (kb : Knowledge) (concept : ℕ) (candidates : List ℕ) (next t : ℕ) (kept : List ℕ) (leading : List Bool) (r : Bool) → slice_get candidates next ≡ Some t
-    → ((a : ℕ) → IsMarked leading a ↔ IsSubsumed kb.axioms a concept) → (IsTrue r ↔ HasFactOf kb.facts kept t leading) → IsTrue r ↔ HasReason kb concept candidates next kept
+pub reason_told : (kb : Knowledge) (concept : ℕ) (candidates : List ℕ) (next t : ℕ) (kept : List ℕ) (leading : List Bool) (r : Bool)
+    → slice_get candidates next ≡ Some t
+    → ((a : ℕ) → IsMarked leading a ↔ IsSubsumed kb.axioms a concept) → (IsTrue r ↔ HasFactOf kb.facts kept t leading) → IsTrue r
+    ↔ HasReason kb concept candidates next kept
 reason_told kb concept candidates next t kept leading r e leads h = (
   λ x. let w = h.0 x in (t, e, (w.0, w.1, (w.2.0, w.2.1, (leads w.2.0).0 w.2.2))),
   λ w.
@@ -62,7 +69,8 @@ reason_told kb concept candidates next t kept leading r e leads h = (
 )
 
 -- without a next candidate there is none
-pub no_reason : (kb : Knowledge) (concept : ℕ) (candidates : List ℕ) (next : ℕ) (kept : List ℕ) → slice_get candidates next ≡ None → ¬ HasReason kb concept candidates next kept
+pub no_reason : (kb : Knowledge) (concept : ℕ) (candidates : List ℕ) (next : ℕ) (kept : List ℕ) → slice_get candidates next ≡ None
+    → ¬ HasReason kb concept candidates next kept
 no_reason kb concept candidates next kept e w = let both : None ≡ Some w.0 = sym e ∙ w.1 in cc both
 
 module _ (kb : Knowledge) (all_names : All IsOfNames kb.axioms) (all_facts : All IsOfName kb.facts) where
@@ -70,8 +78,10 @@ module _ (kb : Knowledge) (all_names : All IsOfNames kb.axioms) (all_facts : All
   entailed_by_one : (concept t i : ℕ) → FactsEntail kb (Only i) (concept_query concept) (t ∷ []) ↔ PutsInto kb concept t i
   entailed_by_one concept t i = (to, from)
     where
-      same : FactsEntail kb (Only i) (concept_query concept) (t ∷ []) ↔ ((j : ℕ) × (a : ℕ) × Only i j × (slice_get kb.facts j ≡ Some (fact.Concept a t)) × IsTrue (subsumed kb.axioms a concept))
-      same = name_entailed kb (λ rule m. All-contains IsOfNames kb.axioms rule all_names m) (fact_of kb all_names all_facts) (subsumed kb.axioms) (tells kb all_names all_facts) (Only i) concept 0 t
+      same : FactsEntail kb (Only i) (concept_query concept) (t ∷ [])
+          ↔ ((j : ℕ) × (a : ℕ) × Only i j × (slice_get kb.facts j ≡ Some (fact.Concept a t)) × IsTrue (subsumed kb.axioms a concept))
+      same = name_entailed kb (λ rule m. All-contains IsOfNames kb.axioms rule all_names m) (fact_of kb all_names all_facts) (subsumed kb.axioms)
+          (tells kb all_names all_facts) (Only i) concept 0 t
 
       to : FactsEntail kb (Only i) (concept_query concept) (t ∷ []) → PutsInto kb concept t i
       to h = let w = same.0 h in (w.1, subst (λ j. slice_get kb.facts j ≡ Some (fact.Concept w.1 t)) w.2 w.3, subsumed_sound kb.axioms w.1 concept w.4)
@@ -80,7 +90,8 @@ module _ (kb : Knowledge) (all_names : All IsOfNames kb.axioms) (all_facts : All
       from (a, e, s) = same.1 (i, a, refl, e, subsumed_complete kb.axioms a concept s)
 
   -- reasons by names are reasons by the definition
-  pub reason_kept : (concept : ℕ) (candidates : List ℕ) (next : ℕ) (kept : List ℕ) → HasReason kb concept candidates next kept ↔ KeepsReason kb (concept_query concept) (tuples_of candidates) next kept
+  pub reason_kept : (concept : ℕ) (candidates : List ℕ) (next : ℕ) (kept : List ℕ) → HasReason kb concept candidates next kept
+      ↔ KeepsReason kb (concept_query concept) (tuples_of candidates) next kept
   reason_kept concept candidates next kept = (to, from)
     where
       to : HasReason kb concept candidates next kept → KeepsReason kb (concept_query concept) (tuples_of candidates) next kept
@@ -92,7 +103,8 @@ module _ (kb : Knowledge) (all_names : All IsOfNames kb.axioms) (all_facts : All
           (w.0, w.1, (i, c, (entailed_by_one concept w.0 i).0 (subst (FactsEntail kb (Only i) (concept_query concept)) w.2 f)))
 
   -- a right core, where the first tests passed
-  pub right_core : (concept : ℕ) (candidates : List ℕ) (progress : Progress) (number : ℕ) (kept dropped : List ℕ) (r : Bool) → number ≡ progress.cores → AreFactNumbers kb kept → AreFactNumbers kb dropped
+  pub right_core : (concept : ℕ) (candidates : List ℕ) (progress : Progress) (number : ℕ) (kept dropped : List ℕ) (r : Bool) → number ≡ progress.cores
+      → AreFactNumbers kb kept → AreFactNumbers kb dropped
       → HasReason kb concept candidates progress.answers kept → (IsTrue r ↔ IsCore kb repairs.All (is_in kept) (is_in dropped))
       → IsTrue r ↔ IsRightCore kb (concept_query concept) (tuples_of candidates) progress number kept dropped
   right_core concept candidates progress number kept dropped r n k d reason h = (
@@ -101,9 +113,11 @@ module _ (kb : Knowledge) (all_names : All IsOfNames kb.axioms) (all_facts : All
   )
 
   -- no core is right without a reason
-  pub no_right_core : (concept : ℕ) (candidates : List ℕ) (progress : Progress) (number : ℕ) (kept dropped : List ℕ) → ¬ HasReason kb concept candidates progress.answers kept
+  pub no_right_core : (concept : ℕ) (candidates : List ℕ) (progress : Progress) (number : ℕ) (kept dropped : List ℕ)
+      → ¬ HasReason kb concept candidates progress.answers kept
       → IsTrue false ↔ IsRightCore kb (concept_query concept) (tuples_of candidates) progress number kept dropped
-  no_right_core concept candidates progress number kept dropped none = ((λ t. absurd (true≢false (sym t))), λ w. absurd (none ((reason_kept concept candidates progress.answers kept).1 w.reason)))
+  no_right_core concept candidates progress number kept dropped none =
+      ((λ t. absurd (true≢false (sym t))), λ w. absurd (none ((reason_kept concept candidates progress.answers kept).1 w.reason)))
 
   -- a name that meets itself is unsatisfiable
   unsatisfiable : (a : ℕ) → Meets kb.axioms a a → IsUnsatisfiable kb.axioms a
@@ -124,7 +138,8 @@ module _ (kb : Knowledge) (all_names : All IsOfNames kb.axioms) (all_facts : All
       from (i, w) = let p = (law.witness i).0 w in (i, p.0, p.1, p.2, λ m. p.3 (unsatisfiable p.0 m))
 
   -- the verdict of the table is the right one
-  pub brave_told : (tables : Tables) (progress : Progress) (t : ℕ) (brave : Verdict) (cores : List ℕ) → AreTables kb tables → IsToldBrave tables progress t brave cores ↔ IsRightBrave kb (concept_query tables.concept) progress (t ∷ []) brave cores
+  pub brave_told : (tables : Tables) (progress : Progress) (t : ℕ) (brave : Verdict) (cores : List ℕ) → AreTables kb tables
+      → IsToldBrave tables progress t brave cores ↔ IsRightBrave kb (concept_query tables.concept) progress (t ∷ []) brave cores
   brave_told tables progress t Yes cores h = (
     λ w. ((witnesses tables.concept t).0 ((h.brave t).0 w.0), w.1, w.2),
     λ w. ((h.brave t).1 ((witnesses tables.concept t).1 w.0), w.1, w.2),
@@ -136,23 +151,35 @@ module _ (kb : Knowledge) (all_names : All IsOfNames kb.axioms) (all_facts : All
   brave_told tables progress t Undecided cores h = ((λ w. w), (λ w. w))
 
   -- and so is an answer that is told
-  pub answer_told : (texts : List (List ℕ)) (tables : Tables) (progress : Progress) (brave : Verdict) (cores : List ℕ) (names : List (List ℕ)) (tuple : List ℕ) → AreTables kb tables
-      → IsToldAnswer texts tables progress brave cores names tuple ↔ IsRightAnswer kb (concept_query tables.concept) texts (tuples_of tables.candidates.items) progress brave Undecided Undecided cores names tuple
+  pub answer_told : (texts : List (List ℕ)) (tables : Tables) (progress : Progress) (brave : Verdict) (cores : List ℕ) (names : List (List ℕ))
+      (tuple : List ℕ) → AreTables kb tables
+      → IsToldAnswer texts tables progress brave cores names tuple
+      ↔ IsRightAnswer kb (concept_query tables.concept) texts (tuples_of tables.candidates.items) progress brave Undecided Undecided cores names tuple
   answer_told texts tables progress brave cores names tuple h = (to, from)
     where
-      to : IsToldAnswer texts tables progress brave cores names tuple → IsRightAnswer kb (concept_query tables.concept) texts (tuples_of tables.candidates.items) progress brave Undecided Undecided cores names tuple
+      to : IsToldAnswer texts tables progress brave cores names tuple
+          → IsRightAnswer kb (concept_query tables.concept) texts (tuples_of tables.candidates.items) progress brave Undecided Undecided cores names tuple
       to (t, e, same, named, told) = record {
-        next = subst (λ xs. slice_get (tuples_of tables.candidates.items) progress.answers ≡ Some xs) (sym same) (tuple_at tables.candidates.items progress.answers t e);
+        next = subst (λ xs. slice_get (tuples_of tables.candidates.items) progress.answers ≡ Some xs) (sym same)
+            (tuple_at tables.candidates.items progress.answers t e);
         named = ap (map (slice_get texts)) same ∙ named;
         ar_open = refl;
         iar_open = refl;
-        brave_right = subst (λ xs. IsRightBrave kb (concept_query tables.concept) progress xs brave cores) (sym same) ((brave_told tables progress t brave cores h).0 told);
+        brave_right = subst (λ xs. IsRightBrave kb (concept_query tables.concept) progress xs brave cores) (sym same)
+            ((brave_told tables progress t brave cores h).0 told);
       }
 
-      from : IsRightAnswer kb (concept_query tables.concept) texts (tuples_of tables.candidates.items) progress brave Undecided Undecided cores names tuple → IsToldAnswer texts tables progress brave cores names tuple
+      from : IsRightAnswer kb (concept_query tables.concept) texts (tuples_of tables.candidates.items) progress brave Undecided Undecided cores names tuple
+          → IsToldAnswer texts tables progress brave cores names tuple
       from w =
-          let c = candidate_at tables.candidates.items progress.answers tuple w.next in
-          (c.0, c.1, c.2, ap (map (slice_get texts)) (sym c.2) ∙ w.named, (brave_told tables progress c.0 brave cores h).1 (subst (λ xs. IsRightBrave kb (concept_query tables.concept) progress xs brave cores) c.2 w.brave_right))
+          let c = candidate_at tables.candidates.items progress.answers tuple w.next in (
+            c.0,
+            c.1,
+            c.2,
+            ap (map (slice_get texts)) (sym c.2) ∙ w.named,
+            (brave_told tables progress c.0 brave cores h).1 (subst (λ xs. IsRightBrave kb (concept_query tables.concept) progress xs brave cores) c.2
+                w.brave_right),
+          )
 
 -- NAMES
 
@@ -163,7 +190,8 @@ one_item (y ∷ []) x l m e = ap (λ z. z ∷ []) (sym e)
 one_item (y ∷ (z ∷ xs)) x l m e = absurd (omega arith)
 
 -- the one name is the text
-pub named_by : (texts : List (List ℕ)) (i : ℕ) (text : List ℕ) (only : String Global) (names : List (String Global)) (b : Bool) → slice_get texts i ≡ Some text → 1 ≤ length names → length names < 2
+pub named_by : (texts : List (List ℕ)) (i : ℕ) (text : List ℕ) (only : String Global) (names : List (String Global)) (b : Bool)
+    → slice_get texts i ≡ Some text → 1 ≤ length names → length names < 2
     → only ≡ get_or names 0 only → b ≡ bytes_eq (string_bytes only) text → IsTrue b ↔ (slice_get texts i ∷ [] ≡ map Some (map string_bytes names))
 named_by texts i text only names b is l m at e = (to, from)
   where
@@ -182,9 +210,12 @@ named_by texts i text only names b is l m at e = (to, from)
 -- LINES
 
 -- an answer whose verdicts for ar and iar are open, and the rest of its rule
-pub answer_right : (kb : Knowledge) (all_names : All IsOfNames kb.axioms) (all_facts : All IsOfName kb.facts) (texts : List (List ℕ)) (tables : Tables) (progress : Progress) (brave ar iar : Verdict) (cores : List ℕ)
-    (names : List (List ℕ)) (tuple : List ℕ) (open_test told : Bool) → AreTables kb tables → (IsTrue open_test ↔ ((ar ≡ Undecided) × (iar ≡ Undecided))) → (IsTrue told ↔ IsToldAnswer texts tables progress brave cores names tuple)
-    → IsTrue (open_test && told) ↔ IsRightAnswer kb (concept_query tables.concept) texts (tuples_of tables.candidates.items) progress brave ar iar cores names tuple
+pub answer_right : (kb : Knowledge) (all_names : All IsOfNames kb.axioms) (all_facts : All IsOfName kb.facts) (texts : List (List ℕ)) (tables : Tables)
+    (progress : Progress) (brave ar iar : Verdict) (cores : List ℕ)
+    (names : List (List ℕ)) (tuple : List ℕ) (open_test told : Bool) → AreTables kb tables → (IsTrue open_test ↔ ((ar ≡ Undecided) × (iar ≡ Undecided)))
+    → (IsTrue told ↔ IsToldAnswer texts tables progress brave cores names tuple)
+    → IsTrue (open_test && told) ↔ IsRightAnswer kb (concept_query tables.concept) texts (tuples_of tables.candidates.items) progress brave ar iar cores names
+    tuple
 answer_right kb all_names all_facts texts tables progress brave ar iar cores names tuple open_test told h opens tells = (to, from)
   where
     Right : Verdict → Verdict → Type 0

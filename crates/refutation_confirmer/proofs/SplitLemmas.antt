@@ -1,5 +1,6 @@
 -- Bytes cut at their first line feed, and the lines that bytes begin with.
-use Rattle.std.proofs.Common.{◌≡◌, ◌==◌, ℕ, ◌+◌, ◌-◌, ◌<◌, List, [], ◌∷◌, ◌++◌, length, take, drop, Bool, true, false, Contains, get_or, refl, sym, subst, ap, ◌∙◌, arith, true≢false, Some, None, eqb-true, eq-eqb, cond, ltb, ltb-false}
+use Rattle.std.proofs.Common.{◌≡◌, ◌==◌, ℕ, ◌+◌, ◌-◌, ◌<◌, List, [], ◌∷◌, ◌++◌, length, take, drop, Bool, true, false, Contains, get_or, refl, sym, subst, ap}
+use Rattle.std.proofs.Common.{◌∙◌, arith, true≢false, Some, None, eqb-true, eq-eqb, cond, ltb, ltb-false}
 use Rattle.std.specs.Prelude.{position}
 use Rattle.std.specs.List.{position_or_len}
 use Rattle.std.proofs.lemmas.List.{take_rest, take-append-drop, drop_more, length-take-le, get_or-take}
@@ -14,9 +15,11 @@ use Rattle.cq_meaning.proofs.NameConflicts.{some_passes}
 use Rattle.refutation_confirmer.specs.Split.{StartsWith, HasNoLineFeed, CutsAt}
 
 -- at the place of the first line feed
-pub cuts_at : (rest : List ℕ) (at : ℕ) → position (λ byte. byte == 10) rest ≡ Some at → CutsAt rest (take at rest) (take (length rest - (at + 1)) (drop (at + 1) rest))
+pub cuts_at : (rest : List ℕ) (at : ℕ) → position (λ byte. byte == 10) rest ≡ Some at
+    → CutsAt rest (take at rest) (take (length rest - (at + 1)) (drop (at + 1) rest))
 cuts_at rest at e = record {
-  exact = sym (take-append-drop at rest) ∙ ap (λ xs. take at rest ++ xs) (drop_more rest at 0 w.0 ∙ ap (λ b. b ∷ drop (at + 1) rest) (eqb-true (get_or rest at 0) 10 w.1) ∙ ap (λ xs. 10 ∷ xs) (sym (take_rest rest (at + 1))));
+  exact = sym (take-append-drop at rest) ∙ ap (λ xs. take at rest ++ xs)
+      (drop_more rest at 0 w.0 ∙ ap (λ b. b ∷ drop (at + 1) rest) (eqb-true (get_or rest at 0) 10 w.1) ∙ ap (λ xs. 10 ∷ xs) (sym (take_rest rest (at + 1))));
   first = λ (k, l, is). no k l is;
 }
   where
@@ -35,7 +38,8 @@ cuts_at rest at e = record {
 pub none_at : (rest : List ℕ) → position (λ byte. byte == 10) rest ≡ None → HasNoLineFeed rest
 none_at rest e (k, l, is) = by (ltb (position_or_len (λ byte. byte == 10) rest) (length rest)) refl e
   where
-    by : (b : Bool) → ltb (position_or_len (λ byte. byte == 10) rest) (length rest) ≡ b → cond b (Some (position_or_len (λ byte. byte == 10) rest)) None ≡ None → ⊥
+    by : (b : Bool) → ltb (position_or_len (λ byte. byte == 10) rest) (length rest) ≡ b
+        → cond b (Some (position_or_len (λ byte. byte == 10) rest)) None ≡ None → ⊥
     by true t h = cc h
     by false t h =
         let past = ltb-false (position_or_len (λ byte. byte == 10) rest) (length rest) t in
@@ -57,13 +61,15 @@ pub text_has_none : (l : Line) → IsWellFormed l → HasNoLineFeed (text_of l)
 text_has_none l h m = true≢false (sym (some_passes (λ byte. 10 == byte) (text_of l) 10 m refl) ∙ none-text_of l h)
 
 -- bytes begin with one line at most
-pub same_start : (bytes : List ℕ) (one other : Line) (x y : List ℕ) → IsWellFormed one → IsWellFormed other → StartsWith bytes one x → StartsWith bytes other y → (one ≡ other) × (x ≡ y)
+pub same_start : (bytes : List ℕ) (one other : Line) (x y : List ℕ) → IsWellFormed one → IsWellFormed other → StartsWith bytes one x
+    → StartsWith bytes other y → (one ≡ other) × (x ≡ y)
 same_start bytes one other x y h k s t =
     let w = same_cut (text_of one) (text_of other) x y (text_has_none one h) (text_has_none other k) (sym s ∙ t) in
     (equal_texts one other h k w.0, w.1)
 
 -- a text that isn't that of a line begins no line
-pub starts_no_line : (bytes text more : List ℕ) → CutsAt bytes text more → ((l : Line) → IsWellFormed l → ¬ (text ≡ text_of l)) → (l : Line) (rest : List ℕ) → IsWellFormed l → ¬ StartsWith bytes l rest
+pub starts_no_line : (bytes text more : List ℕ) → CutsAt bytes text more → ((l : Line) → IsWellFormed l → ¬ (text ≡ text_of l)) → (l : Line) (rest : List ℕ)
+    → IsWellFormed l → ¬ StartsWith bytes l rest
 starts_no_line bytes text more cut none l rest h s = none l h (same_cut text (text_of l) more rest cut.first (text_has_none l h) (sym cut.exact ∙ s)).0
 
 -- and so do bytes with no line feed

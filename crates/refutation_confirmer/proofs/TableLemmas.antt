@@ -1,5 +1,6 @@
 -- Bounds of names, and tables by fact and by individual.
-use Rattle.std.proofs.Common.{◌≡◌, ℕ, ◌+◌, ◌<◌, ◌≤◌, ◌⊎◌, ◌↔◌, inl, inr, List, length, map, Contains, All, Bool, true, false, get_or, refl, sym, subst, ap, ◌∙◌, arith, true≢false, replicate, slice_get, Some}
+use Rattle.std.proofs.Common.{◌≡◌, ℕ, ◌+◌, ◌<◌, ◌≤◌, ◌⊎◌, ◌↔◌, inl, inr, List, length, map, Contains, All, Bool, true, false, get_or, refl, sym, subst, ap}
+use Rattle.std.proofs.Common.{◌∙◌, arith, true≢false, replicate, slice_get, Some}
 use Rattle.std.proofs.lemmas.Bool.{cases_eq}
 use Rattle.std.proofs.lemmas.List.{length-map, get_or-map}
 use Rattle.std.proofs.lemmas.List.Elements.{All-weaker, All-get_or, All-from_get_or, Contains-get_or}
@@ -66,7 +67,8 @@ pub record MarksSo (facts : List Fact) (marks : List Bool) (k : ℕ) (old new : 
 pub MarksSo-none : (facts : List Fact) (marks old : List Bool) → MarksSo facts marks 0 old old
 MarksSo-none facts marks old = record { size = refl; exact = λ t. (inl, λ w. elim w [ inl m ↦ m | inr v ↦ absurd (omega (arith, v.1)) ]) }
 
-pub MarksSo-more : (facts : List Fact) (marks : List Bool) (k : ℕ) (d : Fact) (old mid new : List Bool) → k < length facts → MarksSo facts marks k old mid → MarksIndividual (get_or facts k d) marks mid new → MarksSo facts marks (k + 1) old new
+pub MarksSo-more : (facts : List Fact) (marks : List Bool) (k : ℕ) (d : Fact) (old mid new : List Bool) → k < length facts → MarksSo facts marks k old mid
+    → MarksIndividual (get_or facts k d) marks mid new → MarksSo facts marks (k + 1) old new
 MarksSo-more facts marks k d old mid new l h step = by (get_or facts k d) (slice_get-get_or facts k d l) step
   where
     Told : ℕ → ℕ → Type 0
@@ -77,12 +79,17 @@ MarksSo-more facts marks k d old mid new l h step = by (get_or facts k d) (slice
     later t (inr (i, l, a, e, m)) = inr (i, omega arith, a, e, m)
 
     by : (f : Fact) → slice_get facts k ≡ Some f → MarksIndividual f marks mid new → MarksSo facts marks (k + 1) old new
-    by (fact.Link p s r) e same = record { size = ap length same ∙ h.size; exact = λ t. ((λ m. later t ((h.exact t).0 (subst (λ xs. IsMarked xs t) same m))), λ w. subst (λ xs. IsMarked xs t) (sym same) ((h.exact t).1 (earlier t w))) }
+    by (fact.Link p s r) e same = record {
+      size = ap length same ∙ h.size;
+      exact =
+          λ t. ((λ m. later t ((h.exact t).0 (subst (λ xs. IsMarked xs t) same m))), λ w. subst (λ xs. IsMarked xs t) (sym same) ((h.exact t).1 (earlier t w)));
+    }
       where
         earlier : (t : ℕ) → Told (k + 1) t → Told k t
         earlier t (inl m) = inl m
         earlier t (inr (i, l, a, is, m)) = elim (cases_eq i k) [
-          | inl same ↦ let both : Some (fact.Link p s r) ≡ Some (fact.Concept a t) = sym e ∙ subst (λ n. slice_get facts n ≡ Some (fact.Concept a t)) same is in cc both
+          | inl same ↦ let both : Some (fact.Link p s r) ≡ Some (fact.Concept a t) =
+              sym e ∙ subst (λ n. slice_get facts n ≡ Some (fact.Concept a t)) same is in cc both
           | inr n ↦ inr (i, omega arith, a, is, m)
         ]
     by (fact.Concept b s) e spread = record { size = spread.size ∙ h.size; exact = λ t. ((λ m. to t ((spread.exact t).0 m)), λ w. from t w) }
@@ -102,7 +109,8 @@ MarksSo-more facts marks k d old mid new l h step = by (get_or facts k d) (slice
         ]
 
 -- all facts' individuals
-pub MarksSo-all : (facts : List Fact) (marks : List Bool) (k : ℕ) (old new : List Bool) → length facts ≤ k → MarksSo facts marks k old new → (t : ℕ) → IsMarked new t ↔ (IsMarked old t ⊎ HasFact facts marks t)
+pub MarksSo-all : (facts : List Fact) (marks : List Bool) (k : ℕ) (old new : List Bool) → length facts ≤ k → MarksSo facts marks k old new → (t : ℕ)
+    → IsMarked new t ↔ (IsMarked old t ⊎ HasFact facts marks t)
 MarksSo-all facts marks k old new l h t = ((λ m. to ((h.exact t).0 m)), λ w. (h.exact t).1 (from w))
   where
     Told : Type 0
@@ -117,7 +125,8 @@ MarksSo-all facts marks k old new l h t = ((λ m. to ((h.exact t).0 m)), λ w. (
     from (inr (i, a, e, m)) = let w = slice_get_within facts i (fact.Concept a t) e in inr (i, omega arith, a, e, m)
 
 -- over a table without a mark
-pub individuals_alone : (facts : List Fact) (marks new : List Bool) (n : ℕ) → ((t : ℕ) → IsMarked new t ↔ (IsMarked (replicate n false) t ⊎ HasFact facts marks t)) → (t : ℕ) → IsMarked new t ↔ HasFact facts marks t
+pub individuals_alone : (facts : List Fact) (marks new : List Bool) (n : ℕ)
+    → ((t : ℕ) → IsMarked new t ↔ (IsMarked (replicate n false) t ⊎ HasFact facts marks t)) → (t : ℕ) → IsMarked new t ↔ HasFact facts marks t
 individuals_alone facts marks new n h t = ((λ m. to ((h t).0 m)), (λ w. (h t).1 (inr w)))
   where
     to : IsMarked (replicate n false) t ⊎ HasFact facts marks t → HasFact facts marks t
@@ -129,7 +138,8 @@ individuals_alone facts marks new n h t = ((λ m. to ((h t).0 m)), (λ w. (h t).
 -- the name of a fact is below the bound
 pub name_within : (n : ℕ) (facts : List Fact) → All (IsFactWithin n) facts → (i a t : ℕ) → slice_get facts i ≡ Some (fact.Concept a t) → a < n
 name_within n facts all i a t e =
-    subst (IsFactWithin n) (get_or_from_slice_get facts i (fact.Concept a t) (fact.Concept a t) e) (All-get_or (IsFactWithin n) facts i (fact.Concept a t) (slice_get_within facts i (fact.Concept a t) e) all)
+    subst (IsFactWithin n) (get_or_from_slice_get facts i (fact.Concept a t) (fact.Concept a t) e)
+    (All-get_or (IsFactWithin n) facts i (fact.Concept a t) (slice_get_within facts i (fact.Concept a t) e) all)
 
 module _ (kb : Knowledge) (concept names : ℕ) (leading unsatisfiable : List Bool) (within : All (IsFactWithin names) kb.facts)
     (leads : (a : ℕ) → IsMarked leading a ↔ IsSubsumed kb.axioms a concept) (met : (a : ℕ) → a < names → IsMarked unsatisfiable a ↔ Meets kb.axioms a a) where
@@ -142,10 +152,17 @@ module _ (kb : Knowledge) (concept names : ℕ) (leading unsatisfiable : List Bo
   )
 
   -- the individuals of self-consistent facts
-  pub brave_individuals : (safe brave : List Bool) → ((k : ℕ) → IsMarked safe k ↔ (IsMarked leading k × ¬ IsMarked unsatisfiable k)) → ((t : ℕ) → IsMarked brave t ↔ HasFact kb.facts safe t)
+  pub brave_individuals : (safe brave : List Bool) → ((k : ℕ) → IsMarked safe k ↔ (IsMarked leading k × ¬ IsMarked unsatisfiable k))
+      → ((t : ℕ) → IsMarked brave t ↔ HasFact kb.facts safe t)
       → (t : ℕ) → IsMarked brave t ↔ HasSafeFact kb concept t
   brave_individuals safe brave left h t = (
-    λ m. let w = (h t).0 m in let v = (left w.1).0 w.3 in (w.0, w.1, w.2, (leads w.1).0 v.0, λ x. v.1 ((met w.1 (name_within names kb.facts within w.0 w.1 t w.2)).1 x)),
+    λ m. let w = (h t).0 m in let v = (left w.1).0 w.3 in (
+      w.0,
+      w.1,
+      w.2,
+      (leads w.1).0 v.0,
+      λ x. v.1 ((met w.1 (name_within names kb.facts within w.0 w.1 t w.2)).1 x),
+    ),
     λ w. (h t).1 (w.0, w.1, w.2, (left w.1).1 ((leads w.1).1 w.3, λ x. w.4 ((met w.1 (name_within names kb.facts within w.0 w.1 t w.2)).0 x))),
   )
 
@@ -160,4 +177,5 @@ module _ (kb : Knowledge) (concept names : ℕ) (leading unsatisfiable : List Bo
 -- each marked place is in a table of the size
 pub places_within : (marks : List Bool) (places : List ℕ) (n : ℕ) → AreMarked marks places → length marks ≡ n → All (λ t. t < n) places
 places_within marks places n are e =
-    All-from_get_or (λ t. t < n) places 0 (λ i l. subst (λ z. get_or places i 0 < z) e (IsMarked-within marks (get_or places i 0) ((are.exact (get_or places i 0)).0 (Contains-get_or places i 0 l))))
+    All-from_get_or (λ t. t < n) places 0 (λ i l. subst (λ z. get_or places i 0 < z) e
+    (IsMarked-within marks (get_or places i 0) ((are.exact (get_or places i 0)).0 (Contains-get_or places i 0 l))))

@@ -13,7 +13,8 @@ is_in numbers i = list_any (λ n. n == i) numbers
 
 -- the two facts are of one individual, and their concept names meet
 abbrev pub Clashes : Knowledge → ℕ → ℕ → Type 0
-Clashes kb i j = (a : ℕ) × (b : ℕ) × (t : ℕ) × (slice_get kb.facts i ≡ Some (fact.Concept a t)) × (slice_get kb.facts j ≡ Some (fact.Concept b t)) × Meets kb.axioms a b
+Clashes kb i j = (a : ℕ) × (b : ℕ) × (t : ℕ) × (slice_get kb.facts i ≡ Some (fact.Concept a t)) × (slice_get kb.facts j ≡ Some (fact.Concept b t))
+    × Meets kb.axioms a b
 
 -- the fact clashes with one of the list
 abbrev pub HasClash : Knowledge → List ℕ → ℕ → Type 0

@@ -61,7 +61,8 @@ IsRightBrave kb q progress tuple Undecided cores = ⊥
 
 -- the answer is of the next candidate, by the names of its individuals; the verdict for brave is right, and the others are
 -- left open
-pub record IsRightAnswer (kb : Knowledge) (q : Query) (texts : List (List ℕ)) (candidates : List (List ℕ)) (progress : Progress) (brave ar iar : Verdict) (cores : List ℕ) (names : List (List ℕ)) (tuple : List ℕ) : Type 0 where
+pub record IsRightAnswer (kb : Knowledge) (q : Query) (texts : List (List ℕ)) (candidates : List (List ℕ)) (progress : Progress) (brave ar iar : Verdict)
+    (cores : List ℕ) (names : List (List ℕ)) (tuple : List ℕ) : Type 0 where
   pub next : slice_get candidates progress.answers ≡ Some tuple
   pub named : map (slice_get texts) tuple ≡ map Some names
   pub ar_open : ar ≡ Undecided
@@ -81,7 +82,8 @@ pub record IsRightEnd (candidates : List (List ℕ)) (progress : Progress) (answ
 abbrev pub ObeysOwnRule : Knowledge → Query → List (List ℕ) → List (List ℕ) → Progress → Line → Type 0
 ObeysOwnRule kb q texts candidates progress (line.Head axioms budget facts keep mode version) = IsRightHead kb axioms budget facts keep mode version
 ObeysOwnRule kb q texts candidates progress (line.Core number kept dropped) = IsRightCore kb q candidates progress number kept dropped
-ObeysOwnRule kb q texts candidates progress (line.Answer brave ar iar cores names tuple) = IsRightAnswer kb q texts candidates progress brave ar iar cores names tuple
+ObeysOwnRule kb q texts candidates progress (line.Answer brave ar iar cores names tuple) =
+    IsRightAnswer kb q texts candidates progress brave ar iar cores names tuple
 ObeysOwnRule kb q texts candidates progress (line.End answers brave ar iar undecided) = IsRightEnd candidates progress answers brave ar iar undecided
 ObeysOwnRule kb q texts candidates progress _ = ⊥
 
@@ -97,4 +99,5 @@ pub record IsRight (kb : Knowledge) (q : Query) (texts : List (List ℕ)) (candi
 -- the line breaks the rule, and no rule that is tried before it
 abbrev pub Breaks : Knowledge → Query → List (List ℕ) → List (List ℕ) → Progress → Line → Rule → Type 0
 Breaks kb q texts candidates progress line rule.Order = is_in_order progress line ≡ false
-Breaks kb q texts candidates progress line rule = (is_in_order progress line ≡ true) × (rule_of line ≡ rule) × ¬ ObeysOwnRule kb q texts candidates progress line
+Breaks kb q texts candidates progress line rule = (is_in_order progress line ≡ true) × (rule_of line ≡ rule)
+    × ¬ ObeysOwnRule kb q texts candidates progress line

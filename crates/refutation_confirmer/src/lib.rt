@@ -11,8 +11,6 @@ mod progress;
 mod rules;
 mod split;
 mod tables;
-#[cfg(test)]
-mod tests;
 
 pub use confirmed::{ConfirmFault, Confirmed};
 pub use confirming::confirm;

@@ -1,5 +1,6 @@
 -- The clause of each fact, and the assignments that satisfy base clauses and clauses of causes.
-use Rattle.std.proofs.Common.{◌≡◌, ◌<◌, ◌+◌, ◌⊎◌, inl, inr, ◌↔◌, ℕ, zero, suc, Bool, true, false, List, [], ◌∷◌, ◌++◌, map, refl, sym, ap, ◌∙◌, subst, arith, Contains, All}
+use Rattle.std.proofs.Common.{◌≡◌, ◌<◌, ◌+◌, ◌⊎◌, inl, inr, ◌↔◌, ℕ, zero, suc, Bool, true, false, List, [], ◌∷◌, ◌++◌, map, refl, sym, ap, ◌∙◌, subst, arith}
+use Rattle.std.proofs.Common.{Contains, All}
 use Rattle.std.proofs.lemmas.Bool.{cases_eq, cases_Bool, true≢false}
 use Rattle.std.proofs.lemmas.List.Elements.{All-contains, Contains-append_left, Contains-push, Contains-push_cases}
 use Rattle.cq_terms.specs.declared.facts.Pair.{Pair}
@@ -38,7 +39,8 @@ pub fact_clause_unique : (p : Priority) (f : ℕ) (c d : List ℕ) → IsFactCla
 fact_clause_unique p f c d (inl (o, e)) (inl (q, g)) = e ∙ sym g
 fact_clause_unique p f c d (inl (o, e)) (inr (n, b)) = absurd (n o)
 fact_clause_unique p f c d (inr (n, b)) (inl (o, e)) = absurd (n o)
-fact_clause_unique p f c d (inr (n, b)) (inr (m, w)) = ascending_same c d b.ascending w.ascending (λ l k. (w.exact l).1 ((b.exact l).0 k)) (λ l k. (b.exact l).1 ((w.exact l).0 k))
+fact_clause_unique p f c d (inr (n, b)) (inr (m, w)) = ascending_same c d b.ascending w.ascending (λ l k. (w.exact l).1 ((b.exact l).0 k))
+    (λ l k. (b.exact l).1 ((w.exact l).0 k))
 
 same_couple : (c d : ℕ × ℕ) → (c ≡ d) ⊎ (c ≡ d → ⊥)
 same_couple (a, b) (x, y) = elim (cases_eq a x) [
@@ -86,7 +88,8 @@ clause_exists p known i =
     below j (inl e) = omega arith
     below j (inr b) = let l = known.conflict i j b.0 in omega arith
 
-    made : (numbers : List ℕ) → IsAscending numbers → ((j : ℕ) → Contains numbers j ↔ ((j < p.facts + i + 1) × ((j ≡ i) ⊎ Blocks p i j))) → (clause : List ℕ) × IsBlockingClause p i clause
+    made : (numbers : List ℕ) → IsAscending numbers → ((j : ℕ) → Contains numbers j ↔ ((j < p.facts + i + 1) × ((j ≡ i) ⊎ Blocks p i j))) → (clause : List ℕ)
+        × IsBlockingClause p i clause
     made numbers up exact = (
       map present numbers,
       record {
@@ -104,7 +107,8 @@ base_wider p S T c wide (inl (a, s, (b, r, m, e))) = inl (a, wide a s, (b, wide 
 base_wider p S T c wide (inr (f, s, w)) = inr (f, wide f s, w)
 
 -- a base clause of facts that are closed under conflict speaks of these alone
-pub base_within : (p : Priority) (S : ℕ → Type 0) → IsClosedUnder (Conflict p) S → (c : List ℕ) → IsBaseClause p S c → (l : ℕ) → Contains c l → S (variable_of l)
+pub base_within : (p : Priority) (S : ℕ → Type 0) → IsClosedUnder (Conflict p) S → (c : List ℕ) → IsBaseClause p S c → (l : ℕ) → Contains c l
+    → S (variable_of l)
 base_within p S closed c base l k = go base
   where
     of_present : (f : ℕ) → S f → l ≡ present f → S (variable_of l)
@@ -117,7 +121,8 @@ base_within p S closed c base l k = go base
     there d e = subst (λ (xs : List ℕ). Contains xs l) e k
 
     go : IsBaseClause p S c → S (variable_of l)
-    go (inl (a, s, (b, r, m, e))) = elim (one_of_two (absent a) (absent b) l (there (conflict_clause a b) e)) [ inl h ↦ of_absent a s h | inr h ↦ of_absent b r h ]
+    go (inl (a, s, (b, r, m, e))) = elim (one_of_two (absent a) (absent b) l (there (conflict_clause a b) e))
+        [ inl h ↦ of_absent a s h | inr h ↦ of_absent b r h ]
     go (inr (f, s, inl (o, e))) = of_absent f s (one_of (absent f) l (there (absent f ∷ []) e))
     go (inr (f, s, inr (n, b))) = each ((b.exact l).0 k)
       where
@@ -126,7 +131,8 @@ base_within p S closed c base l k = go base
         each (j, inr w, is) = of_present j (closed f j s w.0) is
 
 -- a set that is closed under conflict has all that chains of conflicts reach from its facts
-pub reached_inside : (g : ConflictGraph) (start : ℕ) (S : ℕ → Type 0) → IsClosedUnder (AreInConflict g.clashes) S → S start → (n j : ℕ) → IsReachedIn g n start j → S j
+pub reached_inside : (g : ConflictGraph) (start : ℕ) (S : ℕ → Type 0) → IsClosedUnder (AreInConflict g.clashes) S → S start → (n j : ℕ)
+    → IsReachedIn g n start j → S j
 reached_inside g start S closed s zero j e = subst S e s
 reached_inside g start S closed s (suc n) j (l, r, c) = closed l j (reached_inside g start S closed s n l r) c
 
@@ -163,7 +169,12 @@ pub satisfied_from_chosen : (p : Priority) (S : ℕ → Type 0) (v : ℕ → Boo
 satisfied_from_chosen p S v w c (inl (a, s, (b, r, m, e))) = elim (cases_Bool (v a)) [
   | inr f ↦ (absent a, subst (λ (xs : List ℕ). Contains xs (absent a)) (sym e) (Contains-head (absent a) (absent b ∷ [])), absent_true v a f)
   | inl t ↦ elim (cases_Bool (v b)) [
-    | inr f ↦ (absent b, subst (λ (xs : List ℕ). Contains xs (absent b)) (sym e) (Contains-later (absent a) (absent b ∷ []) (absent b) (Contains-head (absent b) [])), absent_true v b f)
+    | inr f ↦ (
+      absent b,
+      subst (λ (xs : List ℕ). Contains xs (absent b)) (sym e)
+          (Contains-later (absent a) (absent b ∷ []) (absent b) (Contains-head (absent b) [])),
+      absent_true v b f,
+    )
     | inl u ↦ absurd (w.pairs a b s r t u (inl m))
   ]
 ]
@@ -178,7 +189,8 @@ satisfied_from_chosen p S v w c (inr (f, s, inr (n, b))) = elim (cases_Bool (v f
 
 -- ---- the laws
 
-pub satisfied_by_chosen_within : (p : Priority) → IsPriority p → (facts : List ℕ) → IsClosedUnder (Conflict p) (Contains facts) → (v : ℕ → Bool) → SatisfiesAll v (IsBaseClause p (Contains facts)) ↔ IsChosenWithin p (Contains facts) v
+pub satisfied_by_chosen_within : (p : Priority) → IsPriority p → (facts : List ℕ) → IsClosedUnder (Conflict p) (Contains facts) → (v : ℕ → Bool)
+    → SatisfiesAll v (IsBaseClause p (Contains facts)) ↔ IsChosenWithin p (Contains facts) v
 satisfied_by_chosen_within p h facts closed v = (chosen_from_satisfied p (of_table p h) (Contains facts) closed v, satisfied_from_chosen p (Contains facts) v)
 
 -- also where the priority has cycles

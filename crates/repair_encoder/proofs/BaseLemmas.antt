@@ -1,9 +1,11 @@
 -- The base clauses of given facts, as a walk over the facts builds them.
-use Rattle.std.proofs.Common.{◌≡◌, ◌<◌, ◌≤◌, ◌+◌, ◌⊎◌, inl, inr, ◌↔◌, ℕ, List, [], ◌∷◌, ◌++◌, length, map, take, get_or, sym, subst, arith, Contains, insert, ltb}
+use Rattle.std.proofs.Common.{◌≡◌, ◌<◌, ◌≤◌, ◌+◌, ◌⊎◌, inl, inr, ◌↔◌, ℕ, List, [], ◌∷◌, ◌++◌, length, map, take, get_or, sym, subst, arith, Contains, insert}
+use Rattle.std.proofs.Common.{ltb}
 use Rattle.std.specs.List.{filter}
 use Rattle.std.proofs.lemmas.Bool.{lt-ltb, ltb-true}
 use Rattle.std.proofs.lemmas.List.{take_more, take_all}
-use Rattle.std.proofs.lemmas.List.Elements.{All-contains, Contains-append_left, Contains-append_right, Contains-append_cases, Contains-push, Contains-push_cases}
+use Rattle.std.proofs.lemmas.List.Elements.{All-contains, Contains-append_left, Contains-append_right, Contains-append_cases, Contains-push}
+use Rattle.std.proofs.lemmas.List.Elements.{Contains-push_cases}
 use Rattle.clause_meaning.proofs.Members.{Contains-map, Contains-map_cases}
 use Rattle.cq_meaning.proofs.Members.{Contains-nil}
 use Rattle.cq_terms.specs.Conflicts.{ConflictGraph, AreInConflict, AreClashes, couples}
@@ -20,26 +22,42 @@ use Rattle.repair_encoder.proofs.ListLemmas.{insert_to, insert_from}
 
 -- the lesser fact of a pair in conflict stands first
 pub couple_up : (g : ConflictGraph) (i j : ℕ) → AreClashes g.facts g.clashes → Contains (couples g.clashes) (i, j) → i < j
-couple_up g i j h c = All-contains (λ (c : ℕ × ℕ). c.0 < c.1) (couples g.clashes) (i, j) (upward g.facts (couples g.clashes) (couples_below g.facts g.clashes h.each)) c
+couple_up g i j h c = All-contains (λ (c : ℕ × ℕ). c.0 < c.1) (couples g.clashes) (i, j)
+    (upward g.facts (couples g.clashes) (couples_below g.facts g.clashes h.each)) c
 
 pub no_self_conflict : (g : ConflictGraph) (i : ℕ) → AreClashes g.facts g.clashes → AreInConflict g.clashes i i → ⊥
 no_self_conflict g i h (inl c) = let l = couple_up g i i h c in omega arith
 no_self_conflict g i h (inr c) = let l = couple_up g i i h c in omega arith
 
 -- the literals of a fact and of others, with the fact at its place
-present_insert : (fact at : ℕ) (others : List ℕ) (l : ℕ) → Contains (map present (insert others at fact)) l ↔ ((f : ℕ) × ((f ≡ fact) ⊎ Contains others f) × (l ≡ present f))
+present_insert : (fact at : ℕ) (others : List ℕ) (l : ℕ) → Contains (map present (insert others at fact)) l
+    ↔ ((f : ℕ) × ((f ≡ fact) ⊎ Contains others f) × (l ≡ present f))
 present_insert fact at others l = (
   (λ c. let w = Contains-map_cases present (insert others at fact) l c in (w.0, insert_to others at fact w.0 w.1, sym w.2)),
-  (λ (f, m, e). subst (Contains (map present (insert others at fact))) (sym e) (Contains-map present (insert others at fact) f (insert_from others at fact f m))),
+  (λ (f, m, e). subst (Contains (map present (insert others at fact))) (sym e)
+      (Contains-map present (insert others at fact) f (insert_from others at fact f m))),
 )
 
-pub says_one : (fact at : ℕ) (others clause : List ℕ) → clause ≡ map present (insert others at fact) → IsAscending (insert others at fact) → SaysOneIsPresent fact others clause
-says_one fact at others clause is up = rw is (record { ascending = ascending_map present (λ i j l. omega arith) (insert others at fact) up; exact = present_insert fact at others })
+pub says_one : (fact at : ℕ) (others clause : List ℕ) → clause ≡ map present (insert others at fact) → IsAscending (insert others at fact)
+    → SaysOneIsPresent fact others clause
+says_one fact at others clause is up = rw is (record {
+  ascending = ascending_map present (λ i j l. omega arith) (insert others at fact) up;
+  exact =
+      present_insert fact at others;
+})
 
 -- a fact and its blockers make the clause of the fact
-pub blocking_clause : (p : Priority) (fact : ℕ) (blockers clause : List ℕ) → AreBlockers p fact blockers → ¬ Contains p.own fact → SaysOneIsPresent fact blockers clause
+pub blocking_clause : (p : Priority) (fact : ℕ) (blockers clause : List ℕ) → AreBlockers p fact blockers → ¬ Contains p.own fact
+    → SaysOneIsPresent fact blockers clause
     → IsFactClause p fact clause
-blocking_clause p fact blockers clause b own h = inr (own, record { ascending = h.ascending; exact = λ l. ((λ m. to l ((h.exact l).0 m)), (λ w. (h.exact l).1 (from l w))) })
+blocking_clause p fact blockers clause b own h = inr (
+  own,
+  record {
+    ascending = h.ascending;
+    exact =
+        λ l. ((λ m. to l ((h.exact l).0 m)), (λ w. (h.exact l).1 (from l w)));
+  },
+)
   where
     to : (l : ℕ) → ((f : ℕ) × ((f ≡ fact) ⊎ Contains blockers f) × (l ≡ present f)) → (f : ℕ) × ((f ≡ fact) ⊎ Blocks p fact f) × (l ≡ present f)
     to l (f, inl e, is) = (f, inl e, is)
@@ -53,19 +71,23 @@ blocking_clause p fact blockers clause b own h = inr (own, record { ascending = 
 abbrev pub IsBuilt : Priority → ConflictGraph → (ℕ → Type 0) → List ℕ → Type 0
 IsBuilt p g S c = ((f : ℕ) × S f × IsFactClause p f c) ⊎ ((a : ℕ) × S a × ((b : ℕ) × (a < b) × AreInConflict g.clashes a b × (c ≡ conflict_clause a b)))
 
-pub conflict_clauses_to : (f : ℕ) (rivals : List ℕ) (c : List ℕ) → Contains (conflict_clauses f rivals) c → (b : ℕ) × (f < b) × Contains rivals b × (c ≡ conflict_clause f b)
+pub conflict_clauses_to : (f : ℕ) (rivals : List ℕ) (c : List ℕ) → Contains (conflict_clauses f rivals) c → (b : ℕ) × (f < b) × Contains rivals b
+    × (c ≡ conflict_clause f b)
 conflict_clauses_to f rivals c m =
     let w = Contains-map_cases (conflict_clause f) (filter (ltb f) rivals) c m in
     let k = Contains-filter_from (ltb f) rivals w.0 w.1 in
     (w.0, ltb-true f w.0 k.1, k.0, sym w.2)
 
-conflict_clauses_from : (f : ℕ) (rivals : List ℕ) (c : List ℕ) (b : ℕ) → f < b → Contains rivals b → c ≡ conflict_clause f b → Contains (conflict_clauses f rivals) c
+conflict_clauses_from : (f : ℕ) (rivals : List ℕ) (c : List ℕ) (b : ℕ) → f < b → Contains rivals b → c ≡ conflict_clause f b
+    → Contains (conflict_clauses f rivals) c
 conflict_clauses_from f rivals c b l m e =
-    subst (Contains (conflict_clauses f rivals)) (sym e) (Contains-map (conflict_clause f) (filter (ltb f) rivals) b (Contains-filter_to (ltb f) rivals b m (lt-ltb f b l)))
+    subst (Contains (conflict_clauses f rivals)) (sym e) (Contains-map (conflict_clause f) (filter (ltb f) rivals) b
+    (Contains-filter_to (ltb f) rivals b m (lt-ltb f b l)))
 
 -- the clauses of one more fact, where its own is there
 pub built_more : (p : Priority) (g : ConflictGraph) (facts : List ℕ) (k : ℕ) (old new : List (List ℕ)) (rivals : List ℕ) → k < length facts
-    → ((c : List ℕ) → Contains old c ↔ IsBuilt p g (Contains (take k facts)) c) → ((c : List ℕ) → Contains new c ↔ (Contains old c ⊎ IsFactClause p (get_or facts k 0) c))
+    → ((c : List ℕ) → Contains old c ↔ IsBuilt p g (Contains (take k facts)) c)
+    → ((c : List ℕ) → Contains new c ↔ (Contains old c ⊎ IsFactClause p (get_or facts k 0) c))
     → ((j : ℕ) → Contains rivals j ↔ AreInConflict g.clashes (get_or facts k 0) j)
     → (c : List ℕ) → Contains (new ++ conflict_clauses (get_or facts k 0) rivals) c ↔ IsBuilt p g (Contains (take (k + 1) facts)) c
 built_more p g facts k old new rivals l h alone against c = (to, from)
@@ -107,11 +129,13 @@ built_more p g facts k old new rivals l h alone against c = (to, from)
       | inl n ↦ from_new (inl ((h c).1 (inr (a, n, (b, less, against_b, is)))))
       | inr e ↦
           Contains-append_right new (conflict_clauses fact rivals) c
-          (conflict_clauses_from fact rivals c b (subst (λ (i : ℕ). i < b) (sym e) less) ((against b).1 (subst (λ (i : ℕ). AreInConflict g.clashes i b) (sym e) against_b)) (subst (λ (i : ℕ). c ≡ conflict_clause i b) (sym e) is))
+          (conflict_clauses_from fact rivals c b (subst (λ (i : ℕ). i < b) (sym e) less)
+          ((against b).1 (subst (λ (i : ℕ). AreInConflict g.clashes i b) (sym e) against_b)) (subst (λ (i : ℕ). c ≡ conflict_clause i b) (sym e) is))
     ]
 
 -- a pushed clause of a fact is its only one
-pub pushed_clause : (p : Priority) (fact : ℕ) (old : List (List ℕ)) (clause : List ℕ) → IsFactClause p fact clause → (c : List ℕ) → Contains (old ++ clause ∷ []) c ↔ (Contains old c ⊎ IsFactClause p fact c)
+pub pushed_clause : (p : Priority) (fact : ℕ) (old : List (List ℕ)) (clause : List ℕ) → IsFactClause p fact clause → (c : List ℕ)
+    → Contains (old ++ clause ∷ []) c ↔ (Contains old c ⊎ IsFactClause p fact c)
 pushed_clause p fact old clause alone c = (
   (λ m. elim (Contains-push_cases old clause c m) [ inl n ↦ inl n | inr e ↦ inr (subst (IsFactClause p fact) e alone) ]),
   elim [
@@ -128,7 +152,8 @@ built_none p g c = ((λ m. absurd (Contains-nil c m)), none)
     none (inr (a, m, w)) = absurd (Contains-nil a m)
 
 -- all that is built over facts closed under conflict are their base clauses
-pub built_all : (p : Priority) (g : ConflictGraph) (facts : List ℕ) (k : ℕ) (clauses : List (List ℕ)) → length facts ≤ k → IsOver p g → AreClashes g.facts g.clashes
+pub built_all : (p : Priority) (g : ConflictGraph) (facts : List ℕ) (k : ℕ) (clauses : List (List ℕ)) → length facts ≤ k → IsOver p g
+    → AreClashes g.facts g.clashes
     → IsClosedUnder (AreInConflict g.clashes) (Contains facts) → ((c : List ℕ) → Contains clauses c ↔ IsBuilt p g (Contains (take k facts)) c)
     → (c : List ℕ) → Contains clauses c ↔ IsBaseClause p (Contains facts) c
 built_all p g facts k clauses l over kept closed h c = ((λ m. to ((all c).0 m)), (λ b. (all c).1 (from b)))

@@ -45,15 +45,18 @@ pair_ascending x y l i j d less inside =
     let second : j ≡ 1 = omega arith in
     rw (first, second) l
 
-pub base_has_form : (p : Priority) (g : ConflictGraph) (facts clause : List ℕ) → IsOver p g → AreClashes g.facts g.clashes → IsClosedUnder (AreInConflict g.clashes) (Contains facts) → IsBaseClause p (Contains facts) clause → HasForm facts clause
+pub base_has_form : (p : Priority) (g : ConflictGraph) (facts clause : List ℕ) → IsOver p g → AreClashes g.facts g.clashes
+    → IsClosedUnder (AreInConflict g.clashes) (Contains facts) → IsBaseClause p (Contains facts) clause → HasForm facts clause
 base_has_form p g facts clause over kept closed (inl (a, s, (b, r, m, e))) =
     let less = couple_up g a b kept (subst (λ (cs : List (ℕ × ℕ)). Contains cs (a, b)) over.couples m) in
-    subst (HasForm facts) (sym e) (of_one_sign facts 1 (conflict_clause a b) (omega arith) (omega arith) (pair_ascending (absent a) (absent b) (omega arith)) two)
+    subst (HasForm facts) (sym e) (of_one_sign facts 1 (conflict_clause a b) (omega arith) (omega arith) (pair_ascending (absent a) (absent b) (omega arith))
+    two)
   where
     two : AreOf facts 1 (conflict_clause a b)
     two l k = elim (one_of_two (absent a) (absent b) l k) [ inl is ↦ (a, s, is) | inr is ↦ (b, r, is) ]
 base_has_form p g facts clause over kept closed (inr (f, s, inl (o, e))) =
-    subst (HasForm facts) (sym e) (of_one_sign facts 1 (absent f ∷ []) (omega arith) (omega arith) (λ i j d l m. absurd (omega arith)) (λ l k. (f, s, one_of (absent f) l k)))
+    subst (HasForm facts) (sym e) (of_one_sign facts 1 (absent f ∷ []) (omega arith) (omega arith) (λ i j d l m. absurd (omega arith))
+    (λ l k. (f, s, one_of (absent f) l k)))
 base_has_form p g facts clause over kept closed (inr (f, s, inr (n, b))) =
     let here : Contains clause (present f) = (b.exact (present f)).1 (f, inl refl, refl) in
     of_one_sign facts 0 clause (omega arith) (omega (arith, here.1)) b.ascending (λ l k. each l ((b.exact l).0 k))
@@ -62,6 +65,7 @@ base_has_form p g facts clause over kept closed (inr (f, s, inr (n, b))) =
     each l (j, inl e, is) = (j, subst (Contains facts) (sym e) s, omega (arith, is))
     each l (j, inr w, is) = (j, closed f j s (conflict_over p g f j over w.0), omega (arith, is))
 
-pub all_have_form : (p : Priority) (g : ConflictGraph) (facts : List ℕ) (clauses : List (List ℕ)) → IsOver p g → AreClashes g.facts g.clashes → IsClosedUnder (AreInConflict g.clashes) (Contains facts)
+pub all_have_form : (p : Priority) (g : ConflictGraph) (facts : List ℕ) (clauses : List (List ℕ)) → IsOver p g → AreClashes g.facts g.clashes
+    → IsClosedUnder (AreInConflict g.clashes) (Contains facts)
     → ((c : List ℕ) → Contains clauses c ↔ IsBaseClause p (Contains facts) c) → All (HasForm facts) clauses
 all_have_form p g facts clauses over kept closed h = All-of (HasForm facts) clauses (λ c m. base_has_form p g facts c over kept closed ((h c).0 m))

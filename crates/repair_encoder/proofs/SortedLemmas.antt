@@ -28,7 +28,8 @@ module _ (facts sorted : List ℕ) (h : IsSorted facts sorted) where
   pub sorted_form : (clauses : List (List ℕ)) → All (HasForm sorted) clauses → All (HasForm facts) clauses
   sorted_form clauses all = All-weaker (HasForm sorted) (HasForm facts) form clauses all
 
-  pub sorted_exact : (p : Priority) (clauses : List (List ℕ)) → ((c : List ℕ) → Contains clauses c ↔ IsBaseClause p (Contains sorted) c) → (c : List ℕ) → Contains clauses c ↔ IsBaseClause p (Contains facts) c
+  pub sorted_exact : (p : Priority) (clauses : List (List ℕ)) → ((c : List ℕ) → Contains clauses c ↔ IsBaseClause p (Contains sorted) c) → (c : List ℕ)
+      → Contains clauses c ↔ IsBaseClause p (Contains facts) c
   sorted_exact p clauses exact c = (
     (λ m. base_wider p (Contains sorted) (Contains facts) c (λ f n. (h.same f).0 n) ((exact c).0 m)),
     (λ b. (exact c).1 (base_wider p (Contains facts) (Contains sorted) c (λ f n. (h.same f).1 n) b)),

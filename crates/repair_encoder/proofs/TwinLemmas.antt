@@ -1,5 +1,6 @@
 -- Facts that share one clause, and that no base clause is built twice.
-use Rattle.std.proofs.Common.{suc, ◌≡◌, ◌≢◌, ◌<◌, ◌≤◌, ◌+◌, ◌⊎◌, inl, inr, ◌↔◌, ℕ, List, [], ◌∷◌, ◌++◌, length, take, get_or, ltb, refl, sym, ap, ◌∙◌, subst, arith, Contains, append_assoc}
+use Rattle.std.proofs.Common.{suc, ◌≡◌, ◌≢◌, ◌<◌, ◌≤◌, ◌+◌, ◌⊎◌, inl, inr, ◌↔◌, ℕ, List, [], ◌∷◌, ◌++◌, length, take, get_or, ltb, refl, sym, ap, ◌∙◌, subst}
+use Rattle.std.proofs.Common.{arith, Contains, append_assoc}
 use Rattle.std.specs.List.{AllPairs, filter}
 use Rattle.std.proofs.lemmas.Bool.{cases_lt}
 use Rattle.std.proofs.lemmas.List.{append-nil, get_or-take, get_or_default, length-take-le, length-map}
@@ -21,7 +22,8 @@ use Rattle.repair_encoder.proofs.BaseLemmas.{IsBuilt, conflict_clauses_to, built
 
 -- ---- lists
 
-all_pairs_append : {X : Type 0} (R : X → X → Type 0) (xs ys : List X) → AllPairs R xs → AllPairs R ys → ((x y : X) → Contains xs x → Contains ys y → R x y) → AllPairs R (xs ++ ys)
+all_pairs_append : {X : Type 0} (R : X → X → Type 0) (xs ys : List X) → AllPairs R xs → AllPairs R ys → ((x y : X) → Contains xs x → Contains ys y → R x y)
+    → AllPairs R (xs ++ ys)
 all_pairs_append R xs [] a b cross = subst (AllPairs R) (sym (append-nil xs)) a
 all_pairs_append {X} R xs (y ∷ ys) a b cross =
     subst (AllPairs R) (append_assoc xs (y ∷ []) ys)
@@ -59,7 +61,8 @@ second_same a b c d e = let same : absent b ≡ absent d = cc in omega arith
 fact_no_conflict : (p : Priority) (f a b : ℕ) (c : List ℕ) → IsFactClause p f c → c ≡ conflict_clause a b → ⊥
 fact_no_conflict p f a b c (inl (o, e)) is = let long = ap (λ (xs : List ℕ). length xs) (sym e ∙ is) in omega arith
 fact_no_conflict p f a b c (inr (n, w)) is =
-    elim (one_of_two (absent a) (absent b) (present f) (subst (λ (xs : List ℕ). Contains xs (present f)) is ((w.exact (present f)).1 (f, inl refl, refl)))) [ inl e ↦ omega arith | inr e ↦ omega arith ]
+    elim (one_of_two (absent a) (absent b) (present f) (subst (λ (xs : List ℕ). Contains xs (present f)) is ((w.exact (present f)).1 (f, inl refl, refl))))
+    [ inl e ↦ omega arith | inr e ↦ omega arith ]
 
 twin_half : (p : Priority) (f e : ℕ) (c : List ℕ) → IsBlockingClause p f c → IsBlockingClause p e c → (j : ℕ) → SpeaksOf p f j → SpeaksOf p e j
 twin_half p f e c w u j s =
@@ -69,18 +72,22 @@ twin_half p f e c w u j s =
 
 same_clause : (p : Priority) (f e : ℕ) (c : List ℕ) → IsFactClause p f c → IsFactClause p e c → e < f → HasLesserTwin p f
 same_clause p f e c (inl (o, is)) (inl (q, be)) less =
-    let same : absent f ≡ absent e = one_of (absent e) (absent f) (subst (λ (xs : List ℕ). Contains xs (absent f)) (sym is ∙ be) (Contains-head (absent f) [])) in absurd (omega arith)
+    let same : absent f ≡ absent e = one_of (absent e) (absent f)
+    (subst (λ (xs : List ℕ). Contains xs (absent f)) (sym is ∙ be) (Contains-head (absent f) [])) in absurd (omega arith)
 same_clause p f e c (inl (o, is)) (inr (n, w)) less =
-    let same : present e ≡ absent f = one_of (absent f) (present e) (subst (λ (xs : List ℕ). Contains xs (present e)) is ((w.exact (present e)).1 (e, inl refl, refl))) in absurd (omega arith)
+    let same : present e ≡ absent f = one_of (absent f) (present e)
+    (subst (λ (xs : List ℕ). Contains xs (present e)) is ((w.exact (present e)).1 (e, inl refl, refl))) in absurd (omega arith)
 same_clause p f e c (inr (n, w)) (inl (o, is)) less =
-    let same : present f ≡ absent e = one_of (absent e) (present f) (subst (λ (xs : List ℕ). Contains xs (present f)) is ((w.exact (present f)).1 (f, inl refl, refl))) in absurd (omega arith)
+    let same : present f ≡ absent e = one_of (absent e) (present f)
+    (subst (λ (xs : List ℕ). Contains xs (present f)) is ((w.exact (present f)).1 (f, inl refl, refl))) in absurd (omega arith)
 same_clause p f e c (inr (n, w)) (inr (m, u)) less = (e, less, λ j. (twin_half p f e c w u j, twin_half p e f c u w j))
 
 -- a twin is in conflict with the fact
 twin_conflict : (p : Priority) (f e : ℕ) → e < f → AreTwins p f e → Conflict p f e
 twin_conflict p f e less twins = elim ((twins e).1 (inl refl)) [ inl is ↦ absurd (omega arith) | inr b ↦ b.0 ]
 
-twin_clause : (p : Priority) (g : ConflictGraph) (f e : ℕ) (c : List ℕ) → IsOver p g → AreClashes g.facts g.clashes → e < f → AreTwins p f e → IsFactClause p f c → IsFactClause p e c
+twin_clause : (p : Priority) (g : ConflictGraph) (f e : ℕ) (c : List ℕ) → IsOver p g → AreClashes g.facts g.clashes → e < f → AreTwins p f e
+    → IsFactClause p f c → IsFactClause p e c
 twin_clause p g f e c over kept less twins h = go h
   where
     against : AreInConflict g.clashes f e
@@ -107,7 +114,8 @@ twin_clause p g f e c over kept less twins h = go h
 
 -- ---- the walk
 
-module _ (p : Priority) (g : ConflictGraph) (over : IsOver p g) (kept : AreClashes g.facts g.clashes) (facts : List ℕ) (up : IsAscending facts) (closed : IsClosedUnder (AreInConflict g.clashes) (Contains facts))
+module _ (p : Priority) (g : ConflictGraph) (over : IsOver p g) (kept : AreClashes g.facts g.clashes) (facts : List ℕ) (up : IsAscending facts)
+    (closed : IsClosedUnder (AreInConflict g.clashes) (Contains facts))
     (k : ℕ) (l : k < length facts) (old new : List (List ℕ)) (rivals : List ℕ) (h : (c : List ℕ) → Contains old c ↔ IsBuilt p g (Contains (take k facts)) c)
     (against : (j : ℕ) → Contains rivals j ↔ AreInConflict g.clashes (get_or facts k 0) j) where
   abbrev pub here : ℕ
@@ -119,10 +127,18 @@ module _ (p : Priority) (g : ConflictGraph) (over : IsOver p g) (kept : AreClash
     where
       alone : PushesFact p here old new → (c : List ℕ) → Contains new c ↔ (Contains old c ⊎ IsFactClause p here c)
       alone (inr (none, (clause, says, is))) c = rw is (pushed_clause p here old clause says c)
-      alone (inl ((e, less, twins), is)) c = rw is ((λ m. inl m), elim [ inl m ↦ m | inr w ↦ (h c).1 (inl (e, before, twin_clause p g here e c over kept less twins w)) ])
+      alone (inl ((e, less, twins), is)) c = rw is (
+        (λ m. inl m),
+        elim [
+          | inl m ↦ m
+          | inr w ↦
+              (h c).1 (inl (e, before, twin_clause p g here e c over kept less twins w))
+        ],
+      )
         where
           before : Contains (take k facts) e
-          before = earlier_in facts k e up l (closed here e (Contains-get_or facts k 0 l) (conflict_over p g here e over (twin_conflict p here e less twins))) less
+          before = earlier_in facts k e up l (closed here e (Contains-get_or facts k 0 l) (conflict_over p g here e over (twin_conflict p here e less twins)))
+              less
 
   -- each clause is built once
   pub pushed_once : IsAscending rivals → AllPairs (λ c d. c ≢ d) old → PushesFact p here old new → AllPairs (λ c d. c ≢ d) (new ++ conflict_clauses here rivals)
@@ -130,7 +146,8 @@ module _ (p : Priority) (g : ConflictGraph) (over : IsOver p g) (kept : AreClash
     where
       first : PushesFact p here old new → AllPairs (λ c d. c ≢ d) new
       first (inl (t, is)) = rw is once
-      first (inr (none, (clause, alone, is))) = rw is (all_pairs_push (λ c d. c ≢ d) old clause once (λ i d m e. fresh (subst (Contains old) e (Contains-get_or old i d m))))
+      first (inr (none, (clause, alone, is))) = rw is (all_pairs_push (λ c d. c ≢ d) old clause once
+          (λ i d m e. fresh (subst (Contains old) e (Contains-get_or old i d m))))
         where
           fresh : Contains old clause → ⊥
           fresh m = go ((h clause).0 m)
@@ -171,7 +188,8 @@ speaks p fact j blockers b = (
 )
 
 -- each blocker of the other fact is spoken of
-pub speaks_of_each : (p : Priority) (fact other k : ℕ) (blockers : List ℕ) → AreBlockers p other blockers → length blockers ≤ k → SpeaksOf p fact other → ((i : ℕ) → i < k → SpeaksOf p fact (get_or blockers i 0))
+pub speaks_of_each : (p : Priority) (fact other k : ℕ) (blockers : List ℕ) → AreBlockers p other blockers → length blockers ≤ k → SpeaksOf p fact other
+    → ((i : ℕ) → i < k → SpeaksOf p fact (get_or blockers i 0))
     → (f : ℕ) → SpeaksOf p other f → SpeaksOf p fact f
 speaks_of_each p fact other k blockers b l own each f (inl e) = subst (SpeaksOf p fact) (sym e) own
 speaks_of_each p fact other k blockers b l own each f (inr w) =
@@ -179,7 +197,8 @@ speaks_of_each p fact other k blockers b l own each f (inr w) =
     subst (SpeaksOf p fact) (get_or_default blockers m.0 0 f m.1 ∙ m.2) (each m.0 (omega (arith, m.1)))
 
 -- no lesser blocker is a twin
-pub no_lesser_twin : (p : Priority) (fact k : ℕ) (blockers : List ℕ) → AreBlockers p fact blockers → length blockers ≤ k → ((i : ℕ) → i < k → get_or blockers i 0 < fact → ¬ AreTwins p fact (get_or blockers i 0)) → ¬ HasLesserTwin p fact
+pub no_lesser_twin : (p : Priority) (fact k : ℕ) (blockers : List ℕ) → AreBlockers p fact blockers → length blockers ≤ k
+    → ((i : ℕ) → i < k → get_or blockers i 0 < fact → ¬ AreTwins p fact (get_or blockers i 0)) → ¬ HasLesserTwin p fact
 no_lesser_twin p fact k blockers b l none (e, less, twins) = elim ((twins e).1 (inl refl)) [
   | inl is ↦ absurd (omega arith)
   | inr w ↦

@@ -1,8 +1,10 @@
 -- The walk over a component: one fact seen, the facts of one step, one more step, and the end.
-use Rattle.std.proofs.Common.{◌≡◌, ◌≢◌, ◌<◌, ◌≤◌, ◌+◌, ◌⊎◌, inl, inr, ◌↔◌, ℕ, suc, Bool, true, false, List, [], ◌∷◌, ◌++◌, length, take, set, get_or, refl, sym, ap, ◌∙◌, subst, arith, Contains, All, length-append, append_assoc, get_or-set_other, get_or-set_same}
+use Rattle.std.proofs.Common.{◌≡◌, ◌≢◌, ◌<◌, ◌≤◌, ◌+◌, ◌⊎◌, inl, inr, ◌↔◌, ℕ, suc, Bool, true, false, List, [], ◌∷◌, ◌++◌, length, take, set, get_or, refl}
+use Rattle.std.proofs.Common.{sym, ap, ◌∙◌, subst, arith, Contains, All, length-append, append_assoc, get_or-set_other, get_or-set_same}
 use Rattle.std.proofs.lemmas.Bool.{cases_eq, true≢false}
 use Rattle.std.proofs.lemmas.List.{take_more, take_all, take-append-le, append-nil, length-set}
-use Rattle.std.proofs.lemmas.List.Elements.{All-contains, All-push, All-weaker, Contains-get_or, Contains-append_left, Contains-append_right, Contains-append_cases, Contains-push, Contains-push_cases}
+use Rattle.std.proofs.lemmas.List.Elements.{All-contains, All-push, All-weaker, Contains-get_or, Contains-append_left, Contains-append_right}
+use Rattle.std.proofs.lemmas.List.Elements.{Contains-append_cases, Contains-push, Contains-push_cases}
 use Rattle.std.proofs.lemmas.List.Quantifiers.{all_pairs_push}
 use Rattle.cq_meaning.proofs.Ascending.{All-of}
 use Rattle.cq_meaning.proofs.Members.{Contains-head, Contains-cases, Contains-nil}
@@ -14,7 +16,8 @@ use Rattle.repair_encoder.specs.Walks.{AreSeen, Visits}
 use Rattle.cq_terms.specs.Lists.{IsSorted}
 
 -- a fact that was seen before
-pub seen_before : (seen : List Bool) (reached : List ℕ) (fact : ℕ) → AreSeen seen reached → fact < length seen → get_or seen fact false ≡ true → Visits reached reached (fact ∷ [])
+pub seen_before : (seen : List Bool) (reached : List ℕ) (fact : ℕ) → AreSeen seen reached → fact < length seen → get_or seen fact false ≡ true
+    → Visits reached reached (fact ∷ [])
 seen_before seen reached fact h l t = record {
   more = [];
   grown = sym (append-nil reached);
@@ -31,10 +34,12 @@ seen_now reached fact = record {
 }
 
 -- a fact that is seen for the first time
-pub seen_more : (seen marked : List Bool) (reached : List ℕ) (fact : ℕ) → AreSeen seen reached → fact < length seen → get_or seen fact false ≡ false → marked ≡ set seen fact true → AreSeen marked (reached ++ fact ∷ [])
+pub seen_more : (seen marked : List Bool) (reached : List ℕ) (fact : ℕ) → AreSeen seen reached → fact < length seen → get_or seen fact false ≡ false
+    → marked ≡ set seen fact true → AreSeen marked (reached ++ fact ∷ [])
 seen_more seen marked reached fact h l f is = record {
   exact = λ i m. by i (subst (λ (n : ℕ). i < n) long m) (cases_eq i fact);
-  known = All-push (λ i. i < length marked) reached fact (All-weaker (λ i. i < length seen) (λ i. i < length marked) (λ i m. subst (λ (n : ℕ). i < n) (sym long) m) reached h.known) (subst (λ (n : ℕ). fact < n) (sym long) l);
+  known = All-push (λ i. i < length marked) reached fact (All-weaker (λ i. i < length seen) (λ i. i < length marked)
+      (λ i m. subst (λ (n : ℕ). i < n) (sym long) m) reached h.known) (subst (λ (n : ℕ). fact < n) (sym long) l);
   once = all_pairs_push (λ i j. i ≢ j) reached fact h.once (λ k d m e. new (subst (Contains reached) e (Contains-get_or reached k d m)));
 }
   where
@@ -67,7 +72,8 @@ pub visits_none : (reached : List ℕ) → Visits reached reached []
 visits_none reached = record { more = []; grown = sym (append-nil reached); of = λ i m. m; all = λ i m. absurd (Contains-nil i m) }
 
 -- the facts so far and one more
-pub visits_more : (facts : List ℕ) (k : ℕ) (old some new : List ℕ) → k < length facts → Visits old some (take k facts) → Visits some new (get_or facts k 0 ∷ []) → Visits old new (take (k + 1) facts)
+pub visits_more : (facts : List ℕ) (k : ℕ) (old some new : List ℕ) → k < length facts → Visits old some (take k facts)
+    → Visits some new (get_or facts k 0 ∷ []) → Visits old new (take (k + 1) facts)
 visits_more facts k old some new l h one = record {
   more = h.more ++ one.more;
   grown = one.grown ∙ ap (λ (xs : List ℕ). xs ++ one.more) h.grown ∙ append_assoc old h.more one.more;
@@ -102,18 +108,22 @@ pub record IsWalked (g : ConflictGraph) (start next : ℕ) (seen : List Bool) (r
   pub done : (i : ℕ) → Contains (take next reached) i → (j : ℕ) → AreInConflict g.clashes i j → Contains reached j
   pub within : next ≤ length reached
 
-pub walked_begun : (g : ConflictGraph) (start : ℕ) (seen : List Bool) (reached : List ℕ) → AreSeen seen reached → length seen ≡ g.facts → Visits [] reached (start ∷ []) → IsWalked g start 0 seen reached
+pub walked_begun : (g : ConflictGraph) (start : ℕ) (seen : List Bool) (reached : List ℕ) → AreSeen seen reached → length seen ≡ g.facts
+    → Visits [] reached (start ∷ []) → IsWalked g start 0 seen reached
 walked_begun g start seen reached marks all h = record {
   marks = marks;
   all = all;
   begun = h.all start (Contains-head start []);
-  linked = λ i m. elim (Contains-cases start [] i (h.of i (subst (λ (xs : List ℕ). Contains xs i) h.grown m))) [ inl e ↦ (0, e) | inr n ↦ absurd (Contains-nil i n) ];
+  linked = λ i m. elim (Contains-cases start [] i (h.of i (subst (λ (xs : List ℕ). Contains xs i) h.grown m)))
+      [ inl e ↦ (0, e) | inr n ↦ absurd (Contains-nil i n) ];
   done = λ i m. absurd (Contains-nil i m);
   within = omega arith;
 }
 
-pub walked_more : (g : ConflictGraph) (start next : ℕ) (seen marked : List Bool) (reached new rivals : List ℕ) → IsWalked g start next seen reached → next < length reached
-    → ((j : ℕ) → Contains rivals j ↔ AreInConflict g.clashes (get_or reached next 0) j) → AreSeen marked new → length marked ≡ length seen → Visits reached new rivals → IsWalked g start (next + 1) marked new
+pub walked_more : (g : ConflictGraph) (start next : ℕ) (seen marked : List Bool) (reached new rivals : List ℕ) → IsWalked g start next seen reached
+    → next < length reached
+    → ((j : ℕ) → Contains rivals j ↔ AreInConflict g.clashes (get_or reached next 0) j) → AreSeen marked new → length marked ≡ length seen
+    → Visits reached new rivals → IsWalked g start (next + 1) marked new
 walked_more g start next seen marked reached new rivals w l against marks all h = record {
   marks = marks;
   all = all ∙ w.all;
@@ -143,11 +153,13 @@ pub walked_few : (g : ConflictGraph) (start next : ℕ) (seen : List Bool) (reac
 walked_few g start next seen reached w = omega (arith, distinct_length (length seen) reached w.marks.once w.marks.known, w.all)
 
 -- what a walk that has come to its end has reached is closed under conflict
-pub walked_closed : (g : ConflictGraph) (start next : ℕ) (seen : List Bool) (reached : List ℕ) → IsWalked g start next seen reached → length reached ≤ next → IsClosedUnder (AreInConflict g.clashes) (Contains reached)
+pub walked_closed : (g : ConflictGraph) (start next : ℕ) (seen : List Bool) (reached : List ℕ) → IsWalked g start next seen reached → length reached ≤ next
+    → IsClosedUnder (AreInConflict g.clashes) (Contains reached)
 walked_closed g start next seen reached w l i j m c = w.done i (subst (λ (xs : List ℕ). Contains xs i) (sym (take_all next reached l)) m) j c
 
 -- in ascending order it is the component
-module _ (g : ConflictGraph) (start next : ℕ) (seen : List Bool) (reached : List ℕ) (w : IsWalked g start next seen reached) (l : length reached ≤ next) (facts : List ℕ) (h : IsSorted reached facts) where
+module _ (g : ConflictGraph) (start next : ℕ) (seen : List Bool) (reached : List ℕ) (w : IsWalked g start next seen reached) (l : length reached ≤ next)
+    (facts : List ℕ) (h : IsSorted reached facts) where
   pub walked_component : IsComponent g start facts
   walked_component = record {
     ascending = h.ascending;
@@ -161,4 +173,5 @@ module _ (g : ConflictGraph) (start next : ℕ) (seen : List Bool) (reached : Li
   component_closed i j m c = (h.same j).1 (walked_closed g start next seen reached w l i j ((h.same i).0 m) c)
 
   pub component_known : All (λ f. f < g.facts) facts
-  component_known = All-of (λ f. f < g.facts) facts (λ f m. subst (λ (n : ℕ). f < n) w.all (All-contains (λ i. i < length seen) reached f w.marks.known ((h.same f).0 m)))
+  component_known = All-of (λ f. f < g.facts) facts (λ f m. subst (λ (n : ℕ). f < n) w.all
+      (All-contains (λ i. i < length seen) reached f w.marks.known ((h.same f).0 m)))

@@ -10,6 +10,3 @@ mod twins;
 pub use base::base_clauses;
 pub use cause::cause_clause;
 pub use reached::component;
-
-#[cfg(test)]
-mod tests;

@@ -43,7 +43,8 @@ wider input b c m n (line.End answers brave ar iar undecided) w = tt
 
 -- the last line stands so
 last_at : (input : Input) (x : Line) (b : List Line) → Right input b x → AreRight input b → AnswersAt input (x ∷ b) x
-last_at input (line.Answer brave ar iar cores names tuple) b r rs = record { earlier = b; right = rs; at = r.order; same_mode = refl; same_budget = refl; own = r.own }
+last_at input (line.Answer brave ar iar cores names tuple) b r rs =
+    record { earlier = b; right = rs; at = r.order; same_mode = refl; same_budget = refl; own = r.own }
 last_at input (line.Head axioms budget facts keep repairs version) b r rs = tt
 last_at input (line.Cq o query step) b r rs = tt
 last_at input (line.Conflict facts rule member) b r rs = tt

@@ -34,14 +34,16 @@ input_of_table kb mode p of = record {
     known : (i : ℕ) → i < length kb.facts → i < p.facts
     known i l = subst (λ n. i < n) (sym of.facts) l
 
-agree_local : (kb : Knowledge) (mode : Repairs) (R v : ℕ → Bool) → ((i : ℕ) → i < length kb.facts → v i ≡ R i) → IsLocallyOptimal kb (repairs.IsBetter kb mode) R → IsLocallyOptimal kb (repairs.IsBetter kb mode) v
+agree_local : (kb : Knowledge) (mode : Repairs) (R v : ℕ → Bool) → ((i : ℕ) → i < length kb.facts → v i ≡ R i)
+    → IsLocallyOptimal kb (repairs.IsBetter kb mode) R → IsLocallyOptimal kb (repairs.IsBetter kb mode) v
 agree_local kb mode R v a h = record {
   consistent = AreConsistent-within kb (In v) (In R) (λ i l t. sym (a i l) ∙ t) h.consistent;
   outside = λ i l f alone. let w = h.outside i l (sym (a i l) ∙ f) alone in (w.0, w.1, a w.0 w.1 ∙ w.2, w.3, w.4);
 }
 
 -- what agrees with a chosen repair on the facts is one
-pub agree_chosen : (kb : Knowledge) (mode : Repairs) (R v : ℕ → Bool) → ((i : ℕ) → i < length kb.facts → v i ≡ R i) → repairs.IsChosen kb mode R → repairs.IsChosen kb mode v
+pub agree_chosen : (kb : Knowledge) (mode : Repairs) (R v : ℕ → Bool) → ((i : ℕ) → i < length kb.facts → v i ≡ R i) → repairs.IsChosen kb mode R
+    → repairs.IsChosen kb mode v
 agree_chosen kb mode R v a c = chosen_from_local kb mode v (agree_local kb mode R v a ((is_local kb mode R).0 c))
 
 -- the base clauses of an input are true of each chosen repair

@@ -56,8 +56,20 @@ module _ (kb : Knowledge) (g : ConflictGraph) (of : AreConflictsOf kb g) where
     conflict = conflict_tells;
     linked = linked_tells;
     reached = λ causes facts. (
-      (λ w. record { ascending = w.ascending; exact = λ i. ((λ m. (reached_tells causes i).0 ((w.exact i).0 m)), (λ c. (w.exact i).1 ((reached_tells causes i).1 c))) }),
-      (λ w. record { ascending = w.ascending; exact = λ i. ((λ m. (reached_tells causes i).1 ((w.exact i).0 m)), (λ c. (w.exact i).1 ((reached_tells causes i).0 c))) }),
+      (λ w. record {
+        ascending = w.ascending;
+        exact = λ i. (
+          (λ m. (reached_tells causes i).0 ((w.exact i).0 m)),
+          (λ c. (w.exact i).1 ((reached_tells causes i).1 c)),
+        );
+      }),
+      (λ w. record {
+        ascending = w.ascending;
+        exact = λ i. (
+          (λ m. (reached_tells causes i).1 ((w.exact i).0 m)),
+          (λ c. (w.exact i).1 ((reached_tells causes i).0 c)),
+        );
+      }),
     );
     bound = λ causes facts. (
       (λ w. record {
@@ -119,10 +131,11 @@ module _ (kb : Knowledge) (causes : List (List ℕ)) (known : (cause : List ℕ)
   Rival facts j = (i : ℕ) × Contains facts i × Conflict kb i j
 
   rival_cases : (facts : List ℕ) (j : ℕ) → (Rival facts j → ⊥) ⊎ Rival facts j
-  rival_cases facts j = elim (all_or_some (λ i. Conflict kb i j → ⊥) (λ i. Conflict kb i j) (λ i. elim (conflict_or_not kb i j) [ inl c ↦ inr c | inr n ↦ inl n ]) facts) [
-    | inl none ↦ inl (λ (i, m, c). none i m c)
-    | inr w ↦ inr w
-  ]
+  rival_cases facts j = elim (all_or_some (λ i. Conflict kb i j → ⊥) (λ i. Conflict kb i j)
+      (λ i. elim (conflict_or_not kb i j) [ inl c ↦ inr c | inr n ↦ inl n ]) facts) [
+        | inl none ↦ inl (λ (i, m, c). none i m c)
+        | inr w ↦ inr w
+      ]
 
   -- facts of the components, and a list of those that are left
   record IsCut (facts left : List ℕ) : Type 0 where
@@ -141,7 +154,8 @@ module _ (kb : Knowledge) (causes : List (List ℕ)) (known : (cause : List ℕ)
   )
 
   -- or one does, and moves over
-  moved : (facts left : List ℕ) → IsCut facts left → (j : ℕ) → Contains left j → Rival facts j → (less : List ℕ) × (length less < length left) × IsCut (j ∷ facts) less
+  moved : (facts left : List ℕ) → IsCut facts left → (j : ℕ) → Contains left j → Rival facts j → (less : List ℕ) × (length less < length left)
+      × IsCut (j ∷ facts) less
   moved facts left w j m (i, k, c) =
       let (less, shorter, rest) = removed left j m in (
         less,

@@ -33,14 +33,16 @@ module _ (input : Input) where
   breaks_one before l r s (inr (o, inr (c, inr (k, (e, n))))) (inr (o', inr (c', inr (k', (e', n'))))) = e ∙ sym e'
 
   -- what is broken isn't accepted
-  pub broken_not_accepted : (pieces : List (Option Line)) (before : List Line) (n : ℕ) (r : Rule) → IsBrokenAt input before pieces n r → IsAcceptedAfter input before pieces → ⊥
+  pub broken_not_accepted : (pieces : List (Option Line)) (before : List Line) (n : ℕ) (r : Rule) → IsBrokenAt input before pieces n r
+      → IsAcceptedAfter input before pieces → ⊥
   broken_not_accepted [] before n r (ne, x, y) e = ne e
   broken_not_accepted (None ∷ rest) before n r b e = e
   broken_not_accepted (Some l ∷ rest) before n r (inl (b, x)) (w, ws) = right_unbroken before l r w b
   broken_not_accepted (Some l ∷ rest) before n r (inr (w', b)) (w, ws) = broken_not_accepted rest (l ∷ before) n r b ws
 
   -- it is broken at one line, by one rule
-  pub broken_once : (pieces : List (Option Line)) (before : List Line) (n m : ℕ) (r s : Rule) → IsBrokenAt input before pieces n r → IsBrokenAt input before pieces m s → (n ≡ m) × (r ≡ s)
+  pub broken_once : (pieces : List (Option Line)) (before : List Line) (n m : ℕ) (r s : Rule) → IsBrokenAt input before pieces n r
+      → IsBrokenAt input before pieces m s → (n ≡ m) × (r ≡ s)
   broken_once [] before n m r s (ne, x, y) (ne', x', y') = (x ∙ sym x', y ∙ sym y')
   broken_once (None ∷ rest) before n m r s (x, y) (x', y') = (x ∙ sym x', y ∙ sym y')
   broken_once (Some l ∷ rest) before n m r s (inl (b, x)) (inl (b', x')) = (x ∙ sym x', breaks_one before l r s b b')
@@ -51,32 +53,42 @@ module _ (input : Input) where
   pub moved : (l : Line) (rest before : List Line) → reverse (l ∷ rest) ++ before ≡ reverse rest ++ (l ∷ before)
   moved l rest before = ap (λ xs. xs ++ before) (reverse-cons l rest) ∙ append_assoc (reverse rest) (l ∷ []) before
 
-  accepted_right : (lines before : List Line) → AreRight input before → IsAcceptedAfter input before (map Some lines) → AreRight input (reverse lines ++ before) × (place_of (reverse lines ++ before) ≡ AtEnd)
+  accepted_right : (lines before : List Line) → AreRight input before → IsAcceptedAfter input before (map Some lines)
+      → AreRight input (reverse lines ++ before) × (place_of (reverse lines ++ before) ≡ AtEnd)
   accepted_right [] before w e = (w, e)
-  accepted_right (l ∷ rest) before w (r, rs) = subst (λ xs. AreRight input xs × (place_of xs ≡ AtEnd)) (sym (moved l rest before)) (accepted_right rest (l ∷ before) (r, w) rs)
+  accepted_right (l ∷ rest) before w (r, rs) = subst (λ xs. AreRight input xs × (place_of xs ≡ AtEnd)) (sym (moved l rest before))
+      (accepted_right rest (l ∷ before) (r, w) rs)
 
-  right_accepted : (lines before : List Line) → AreRight input (reverse lines ++ before) × (place_of (reverse lines ++ before) ≡ AtEnd) → AreRight input before × IsAcceptedAfter input before (map Some lines)
+  right_accepted : (lines before : List Line) → AreRight input (reverse lines ++ before) × (place_of (reverse lines ++ before) ≡ AtEnd)
+      → AreRight input before × IsAcceptedAfter input before (map Some lines)
   right_accepted [] before (w, e) = (w, e)
   right_accepted (l ∷ rest) before w =
       let v = right_accepted rest (l ∷ before) (subst (λ xs. AreRight input xs × (place_of xs ≡ AtEnd)) (moved l rest before) w) in
       (v.0.1, (v.0.0, v.1))
 
   pub back : (l : Line) (b : List Line) (rest : List (Option Line)) → map Some (reverse (l ∷ b)) ++ rest ≡ map Some (reverse b) ++ (Some l ∷ rest)
-  back l b rest = ap (λ xs. map Some xs ++ rest) (reverse-cons l b) ∙ (ap (λ xs. xs ++ rest) (map-append Some (reverse b) (l ∷ [])) ∙ append_assoc (map Some (reverse b)) (Some l ∷ []) rest)
+  back l b rest = ap (λ xs. map Some xs ++ rest) (reverse-cons l b)
+      ∙ (ap (λ xs. xs ++ rest) (map-append Some (reverse b) (l ∷ [])) ∙ append_assoc (map Some (reverse b)) (Some l ∷ []) rest)
 
   -- after right lines, what is found in the rest is found in the whole
-  pub broken_from : (before : List Line) → AreRight input before → (rest : List (Option Line)) (n : ℕ) (r : Rule) → IsBrokenAt input before rest n r → IsBrokenAt input [] (map Some (reverse before) ++ rest) n r
+  pub broken_from : (before : List Line) → AreRight input before → (rest : List (Option Line)) (n : ℕ) (r : Rule) → IsBrokenAt input before rest n r
+      → IsBrokenAt input [] (map Some (reverse before) ++ rest) n r
   broken_from [] w rest n r b = b
-  broken_from (l ∷ before) (w, ws) rest n r b = subst (λ xs. IsBrokenAt input [] xs n r) (sym (back l before rest)) (broken_from before ws (Some l ∷ rest) n r (inr (w, b)))
+  broken_from (l ∷ before) (w, ws) rest n r b = subst (λ xs. IsBrokenAt input [] xs n r) (sym (back l before rest))
+      (broken_from before ws (Some l ∷ rest) n r (inr (w, b)))
 
   -- and so is acceptance
-  pub accepted_from : (before : List Line) → AreRight input before → (rest : List (Option Line)) → IsAcceptedAfter input before rest → IsAcceptedAfter input [] (map Some (reverse before) ++ rest)
+  pub accepted_from : (before : List Line) → AreRight input before → (rest : List (Option Line)) → IsAcceptedAfter input before rest
+      → IsAcceptedAfter input [] (map Some (reverse before) ++ rest)
   accepted_from [] w rest a = a
   accepted_from (l ∷ before) (w, ws) rest a = subst (IsAcceptedAfter input []) (sym (back l before rest)) (accepted_from before ws (Some l ∷ rest) (w, a))
 
 -- the pieces of lines are accepted exactly where the lines are
-pub accepted_pieces : (kb : Knowledge) (names : List (List ℕ)) (q : Query) (lines : List Line) → IsAccepted kb names q (map Some lines) ↔ Accepts kb names q lines
+pub accepted_pieces : (kb : Knowledge) (names : List (List ℕ)) (q : Query) (lines : List Line) → IsAccepted kb names q (map Some lines)
+    ↔ Accepts kb names q lines
 accepted_pieces kb names q lines = (
-  (λ w. let v = subst (λ xs. AreRight (report_on kb names q) xs × (place_of xs ≡ AtEnd)) (append-nil (reverse lines)) (accepted_right (report_on kb names q) lines [] tt w) in record { right = v.0; ended = v.1 }),
-  (λ w. (right_accepted (report_on kb names q) lines [] (subst (λ xs. AreRight (report_on kb names q) xs × (place_of xs ≡ AtEnd)) (sym (append-nil (reverse lines))) (w.right, w.ended))).1),
+  (λ w. let v = subst (λ xs. AreRight (report_on kb names q) xs × (place_of xs ≡ AtEnd)) (append-nil (reverse lines))
+      (accepted_right (report_on kb names q) lines [] tt w) in record { right = v.0; ended = v.1 }),
+  (λ w. (right_accepted (report_on kb names q) lines [] (subst (λ xs. AreRight (report_on kb names q) xs × (place_of xs ≡ AtEnd))
+      (sym (append-nil (reverse lines))) (w.right, w.ended))).1),
 )

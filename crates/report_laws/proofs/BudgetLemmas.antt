@@ -43,7 +43,8 @@ open_decided input b r facts f large cores q verdict.Undecided s =
     absurd (no_verdict_open input (selector_of input.kb (asked b).candidate ∷ facts) b r (covered input.kb (asked b) facts f) large cores q s.1)
 
 -- two lists of all causes have the same facts in conflicts of their components
-same_facts : (kb : Knowledge) (q : Query) (tuple : List ℕ) (causes others : List (List ℕ)) (facts : List ℕ) → AreCauses kb q tuple causes → AreCauses kb q tuple others → AreConflictFacts kb causes facts → AreConflictFacts kb others facts
+same_facts : (kb : Knowledge) (q : Query) (tuple : List ℕ) (causes others : List (List ℕ)) (facts : List ℕ) → AreCauses kb q tuple causes
+    → AreCauses kb q tuple others → AreConflictFacts kb causes facts → AreConflictFacts kb others facts
 same_facts kb q tuple causes others facts u w f = record {
   ascending = f.ascending;
   exact = λ i. (
@@ -52,14 +53,17 @@ same_facts kb q tuple causes others facts u w f = record {
   );
 }
 
-line_decided : (kb : Knowledge) (names : List (List ℕ)) (q : Query) (before : List Line) (l : Line) → AnswersAt (report_on kb names q) before l → IsDecidedByBudget kb q (budget_of before) l
+line_decided : (kb : Knowledge) (names : List (List ℕ)) (q : Query) (before : List Line) (l : Line) → AnswersAt (report_on kb names q) before l
+    → IsDecidedByBudget kb q (budget_of before) l
 line_decided kb names q before (line.Answer brave ar iar cores texts tuple) w = λ causes facts v f large.
     let input : Input = report_on kb names q in
     let h = opens_rightly input w.earlier w.right (ap is_answering w.at) in
     let same : query_of input w.earlier ≡ q = one_query kb names q w.earlier w.right (λ e. in_answer (place_of w.earlier) w.at e) in
     let budget : 3 ^ suc (length facts) ≤ budget_of w.earlier = subst (λ n. 3 ^ suc (length facts) ≤ n) (sym w.same_budget) large in
-    let u : AreCauses kb (query_of input w.earlier) (asked w.earlier).tuple causes = subst (λ p. AreCauses kb p (asked w.earlier).tuple causes) (sym same) (subst (λ t. AreCauses kb q t causes) w.own.same_tuple v) in
-    let f' : AreConflictFacts kb (asked w.earlier).causes facts = same_facts kb (query_of input w.earlier) (asked w.earlier).tuple causes (asked w.earlier).causes facts u h.1.in_place.causes_are f in (
+    let u : AreCauses kb (query_of input w.earlier) (asked w.earlier).tuple causes =
+    subst (λ p. AreCauses kb p (asked w.earlier).tuple causes) (sym same) (subst (λ t. AreCauses kb q t causes) w.own.same_tuple v) in
+    let f' : AreConflictFacts kb (asked w.earlier).causes facts =
+    same_facts kb (query_of input w.earlier) (asked w.earlier).tuple causes (asked w.earlier).causes facts u h.1.in_place.causes_are f in (
       open_decided input w.earlier h.0 facts f' budget cores question.Brave brave w.own.brave_is,
       open_decided input w.earlier h.0 facts f' budget cores question.Ar ar w.own.ar_is,
       open_decided input w.earlier h.0 facts f' budget cores question.Iar iar w.own.iar_is,
@@ -76,6 +80,8 @@ line_decided kb names q before (line.Forget clauses) w = tt
 line_decided kb names q before (line.End answers brave ar iar undecided) w = tt
 
 -- an accepted report decides what its budget is large enough for
-pub large_budget_decides : (kb : Knowledge) (names : List (List ℕ)) (q : Query) (lines : List Line) → Accepts kb names q lines → All (IsDecidedByBudget kb q (budget_told lines)) lines
+pub large_budget_decides : (kb : Knowledge) (names : List (List ℕ)) (q : Query) (lines : List Line) → Accepts kb names q lines
+    → All (IsDecidedByBudget kb q (budget_told lines)) lines
 large_budget_decides kb names q lines w =
-    All-of (IsDecidedByBudget kb q (budget_told lines)) lines (λ l m. line_decided kb names q (reverse lines) l (answers_at (report_on kb names q) (reverse lines) w.right l (Contains-reverse lines l m)))
+    All-of (IsDecidedByBudget kb q (budget_told lines)) lines (λ l m. line_decided kb names q (reverse lines) l
+    (answers_at (report_on kb names q) (reverse lines) w.right l (Contains-reverse lines l m)))

@@ -37,13 +37,15 @@ module _ (kb : Knowledge) (q : Query) (tuple : List ℕ) (causes : List (List �
   cause_entails cause m S h = FactsEntail-mono kb q tuple (Contains cause) S h (listed_cause cause m).1.entails
 
   -- a consistent set that entails it has a whole cause
-  pub entails_cause : (S : ℕ → Type 0) → AreConsistent kb S → FactsEntail kb S q tuple → (cause : List ℕ) × Contains causes cause × ((i : ℕ) → Contains cause i → S i)
+  pub entails_cause : (S : ℕ → Type 0) → AreConsistent kb S → FactsEntail kb S q tuple → (cause : List ℕ) × Contains causes cause
+      × ((i : ℕ) → Contains cause i → S i)
   entails_cause S c e =
       let h = (entailed_by_causes kb q tuple S c).0 e in
       (h.0, w.complete h.0 h.1 h.2, λ i m. All-contains S h.0 i h.3 m)
 
 -- two lists of all causes have the same members
-pub same_causes : (kb : Knowledge) (q : Query) (tuple : List ℕ) (causes others : List (List ℕ)) → AreCauses kb q tuple causes → AreCauses kb q tuple others → (cause : List ℕ) → Contains causes cause → Contains others cause
+pub same_causes : (kb : Knowledge) (q : Query) (tuple : List ℕ) (causes others : List (List ℕ)) → AreCauses kb q tuple causes → AreCauses kb q tuple others
+    → (cause : List ℕ) → Contains causes cause → Contains others cause
 same_causes kb q tuple causes others u w cause m = let c = listed_cause kb q tuple causes u cause m in w.complete cause c.0 c.1
 
 -- the set has the whole cause
@@ -59,5 +61,6 @@ pub has_or_misses : (R : ℕ → Bool) (cause : List ℕ) → Has R cause ⊎ Mi
 has_or_misses R cause = all_or_some (λ i. R i ≡ true) (λ i. R i ≡ false) (λ i. cases_Bool (R i)) cause
 
 -- a set misses a fact of each cause, or has a whole one
-pub misses_or_has : (R : ℕ → Bool) (causes : List (List ℕ)) → ((cause : List ℕ) → Contains causes cause → Misses R cause) ⊎ ((cause : List ℕ) × Contains causes cause × Has R cause)
+pub misses_or_has : (R : ℕ → Bool) (causes : List (List ℕ)) → ((cause : List ℕ) → Contains causes cause → Misses R cause)
+    ⊎ ((cause : List ℕ) × Contains causes cause × Has R cause)
 misses_or_has R causes = all_or_some (Misses R) (Has R) (λ cause. elim (has_or_misses R cause) [ inl h ↦ inr h | inr m ↦ inl m ]) causes

@@ -1,5 +1,6 @@
 -- Clauses over a list of variables as numbers to the base 3, and how many there are.
-use Rattle.std.proofs.Common.{◌≡◌, ◌≢◌, ℕ, zero, suc, ◌<◌, ◌≤◌, ◌+◌, ◌*◌, ◌^◌, ◌⊎◌, inl, inr, List, [], ◌∷◌, length, map, Contains, Bool, true, false, eqb, eqb-true, true≢false, refl, sym, subst, ap, ◌∙◌, cond, arith}
+use Rattle.std.proofs.Common.{◌≡◌, ◌≢◌, ℕ, zero, suc, ◌<◌, ◌≤◌, ◌+◌, ◌*◌, ◌^◌, ◌⊎◌, inl, inr, List, [], ◌∷◌, length, map, Contains, Bool, true, false, eqb}
+use Rattle.std.proofs.Common.{eqb-true, true≢false, refl, sym, subst, ap, ◌∙◌, cond, arith}
 use Rattle.std.specs.List.{list_any, AllByRecursion, IsDistinct}
 use Rattle.std.proofs.Math.Nat.{pow-succ'}
 use Rattle.std.proofs.lemmas.Bool.{or_cases, ne_eqb}
@@ -85,7 +86,8 @@ code_positive (y ∷ variables) c x l m o k = elim (Contains-cases y variables x
 -- two literals of one variable are one
 one_literal : (c : List ℕ) → HaveDistinctVariables c → (k l : ℕ) → Contains c k → Contains c l → variable_of k ≡ variable_of l → k ≡ l
 one_literal [] h k l m n e = absurd (Contains-nil k m)
-one_literal (x ∷ c) h k l m n e = go (Contains-cases x c k m) (Contains-cases x c l n) (λ a b. one_literal c (AllPairs-tail (λ a b. variable_of a ≢ variable_of b) x c h) k l a b e)
+one_literal (x ∷ c) h k l m n e = go (Contains-cases x c k m) (Contains-cases x c l n)
+    (λ a b. one_literal c (AllPairs-tail (λ a b. variable_of a ≢ variable_of b) x c h) k l a b e)
   where
     go : (x ≡ k) ⊎ Contains c k → (x ≡ l) ⊎ Contains c l → (Contains c k → Contains c l → k ≡ l) → k ≡ l
     go (inl a) (inl b) again = sym a ∙ b
@@ -128,9 +130,12 @@ two_digit c h x m = go (has c (present x)) refl (has c (absent x)) (has_true c (
     go false e false t = absurd (true≢false (sym t))
 
 -- where two clauses have one number, one has each literal of the other that is of the variables
-pub same_code : (variables c d : List ℕ) → HaveDistinctVariables d → code variables c ≡ code variables d → (x l : ℕ) → Contains variables x → IsOf l x → Contains d l → Contains c l
-same_code variables c d fd e x l k (inl p) m = subst (Contains c) (sym p) (digit_one c x (code_same variables c d e x k ∙ one_digit d x (subst (Contains d) p m)))
-same_code variables c d fd e x l k (inr p) m = subst (Contains c) (sym p) (digit_two c x (code_same variables c d e x k ∙ two_digit d fd x (subst (Contains d) p m)))
+pub same_code : (variables c d : List ℕ) → HaveDistinctVariables d → code variables c ≡ code variables d → (x l : ℕ) → Contains variables x → IsOf l x
+    → Contains d l → Contains c l
+same_code variables c d fd e x l k (inl p) m = subst (Contains c) (sym p)
+    (digit_one c x (code_same variables c d e x k ∙ one_digit d x (subst (Contains d) p m)))
+same_code variables c d fd e x l k (inr p) m = subst (Contains c) (sym p)
+    (digit_two c x (code_same variables c d e x k ∙ two_digit d fd x (subst (Contains d) p m)))
 
 -- ---- how many
 
@@ -155,7 +160,8 @@ power_positive zero = omega arith
 power_positive (suc k) = rw (pow-succ' 3 k) (omega (arith, power_positive k))
 
 -- one more list, whose number is that of none of the others
-pub distinct_more : (variables c : List ℕ) (xs : List (List ℕ)) → ((d : List ℕ) → Contains xs d → code variables c ≢ code variables d) → IsDistinct eqb (map (code variables) xs) → IsDistinct eqb (map (code variables) (c ∷ xs))
+pub distinct_more : (variables c : List ℕ) (xs : List (List ℕ)) → ((d : List ℕ) → Contains xs d → code variables c ≢ code variables d)
+    → IsDistinct eqb (map (code variables) xs) → IsDistinct eqb (map (code variables) (c ∷ xs))
 unfolding IsDistinct
 distinct_more variables c xs h d = (apart_from (code variables) (code variables c) xs h, d)
 
@@ -164,7 +170,8 @@ unfolding IsDistinct
 distinct_none variables = tt
 
 -- clauses with distinct numbers above 0 are fewer than 3 to the number of variables
-pub fewer : (variables : List ℕ) (xs : List (List ℕ)) → ((d : List ℕ) → Contains xs d → 0 < code variables d) → IsDistinct eqb (map (code variables) xs) → length xs < 3 ^ length variables
+pub fewer : (variables : List ℕ) (xs : List (List ℕ)) → ((d : List ℕ) → Contains xs d → 0 < code variables d) → IsDistinct eqb (map (code variables) xs)
+    → length xs < 3 ^ length variables
 unfolding IsDistinct
 fewer variables xs positive d =
     let codes : List ℕ = map (code variables) xs in

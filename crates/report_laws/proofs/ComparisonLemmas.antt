@@ -1,5 +1,6 @@
 -- Two right beginnings of the same pieces, and pieces that tell no cycle.
-use Rattle.std.proofs.Common.{◌≡◌, ℕ, suc, ◌<◌, ◌⊎◌, inl, inr, List, [], ◌∷◌, ◌++◌, length, map, Option, Some, None, refl, sym, subst, ap, ◌∙◌, arith, append_assoc}
+use Rattle.std.proofs.Common.{◌≡◌, ℕ, suc, ◌<◌, ◌⊎◌, inl, inr, List, [], ◌∷◌, ◌++◌, length, map, Option, Some, None, refl, sym, subst, ap, ◌∙◌, arith}
+use Rattle.std.proofs.Common.{append_assoc}
 use Rattle.std.specs.Prelude.{◌≢◌, reverse}
 use Rattle.std.proofs.lemmas.List.{length-append, reverse-append, reverse-reverse}
 use Rattle.cq_terms.specs.declared.facts.Repairs.TheVariants as mode
@@ -15,7 +16,8 @@ use Rattle.report_rules.specs.Order.{place_of}
 use Rattle.report_rules.specs.Told.{mode_of, conflicts_of}
 use Rattle.report_rules.specs.Accepted.{Right, AreRight}
 use Rattle.report_rules.specs.Broken.{IsBrokenAt, HasCycle}
-use Rattle.report_laws.specs.CycleLaws.{GoesOn, BeginningsCompare, CycleIsTold, AcyclicTellsNone, NoConflictsNoCycle, AllTellsNone, IncompleteTellsNone, IsAcyclicSo, IsConflictLine, BrokenTellsNone, EndedTellsNone, LawsOfCycles}
+use Rattle.report_laws.specs.CycleLaws.{GoesOn, BeginningsCompare, CycleIsTold, AcyclicTellsNone, NoConflictsNoCycle, AllTellsNone, IncompleteTellsNone}
+use Rattle.report_laws.specs.CycleLaws.{IsAcyclicSo, IsConflictLine, BrokenTellsNone, EndedTellsNone, LawsOfCycles}
 use Rattle.report_laws.proofs.AnswerLemmas.{same_options}
 use Rattle.report_laws.proofs.BreakingLemmas.{right_unbroken}
 use Rattle.report_laws.proofs.CycleLemmas.{none_acyclic, no_conflict, conflicts_complete}
@@ -28,7 +30,8 @@ use Rattle.report_laws.proofs.UniqueLists.{conflict_lists_one}
 abbrev Longer : List Line → List (Option Line) → List Line → List (Option Line) → Type 0
 Longer more rest less others = (between : List Line) × (more ≡ less ++ between) × (others ≡ map Some between ++ rest)
 
-compared : (one other : List Line) (rest others : List (Option Line)) → map Some one ++ rest ≡ map Some other ++ others → Longer one rest other others ⊎ Longer other others one rest
+compared : (one other : List Line) (rest others : List (Option Line)) → map Some one ++ rest ≡ map Some other ++ others → Longer one rest other others
+    ⊎ Longer other others one rest
 compared [] other rest others e = inr (other, refl, e)
 compared (l ∷ one) [] rest others e = inl (l ∷ one, refl, sym e)
 compared (l ∷ one) (k ∷ other) rest others e =
@@ -67,11 +70,13 @@ mode_kept input (l ∷ between) before (r, rs) ne = elim (same_options input l (
     empty (x ∷ xs) e = absurd (cc e)
 
 -- the conflicts, once they are complete
-conflicts_kept : (input : Input) (between before : List Line) → AreRight input (between ++ before) → AreConflictLists input.kb (conflicts_of before) → conflicts_of (between ++ before) ≡ conflicts_of before
+conflicts_kept : (input : Input) (between before : List Line) → AreRight input (between ++ before) → AreConflictLists input.kb (conflicts_of before)
+    → conflicts_of (between ++ before) ≡ conflicts_of before
 conflicts_kept input [] before w all = refl
 conflicts_kept input (line.Conflict facts rule member ∷ between) before (r, rs) all =
     let again = conflicts_kept input between before rs all in
-    absurd (longer r.own.next.0 (conflict_lists_one input.kb (conflicts_of before) (conflicts_of before ++ facts ∷ r.own.next.0) all (subst (λ (cs : List (List ℕ)). AreConflictLists input.kb (cs ++ facts ∷ r.own.next.0)) again r.own.next.1)))
+    absurd (longer r.own.next.0 (conflict_lists_one input.kb (conflicts_of before) (conflicts_of before ++ facts ∷ r.own.next.0) all
+    (subst (λ (cs : List (List ℕ)). AreConflictLists input.kb (cs ++ facts ∷ r.own.next.0)) again r.own.next.1)))
   where
     longer : (rest : List (List ℕ)) → conflicts_of before ≡ conflicts_of before ++ facts ∷ rest → ⊥
     longer rest e = let size = ap length e ∙ length-append (conflicts_of before) (facts ∷ rest) in omega arith
@@ -106,7 +111,8 @@ not_empty b at e = let both = sym at ∙ ap place_of e in cc both
 
 pub all_repairs : AllTellsNone
 all_repairs kb names q before rest w ne m (early, later, same, right, at, all, ranked, n) = elim (compare before early rest later same) [
-  | inl (between, e, f) ↦ clash (ap mode_of e ∙ mode_kept (report_on kb names q) between early (subst (AreRight (report_on kb names q)) e w) (not_empty early at))
+  | inl (between, e, f) ↦ clash (ap mode_of e ∙ mode_kept (report_on kb names q) between early (subst (AreRight (report_on kb names q)) e w)
+      (not_empty early at))
   | inr (between, e, f) ↦ clash (sym (ap mode_of e ∙ mode_kept (report_on kb names q) between before (subst (AreRight (report_on kb names q)) e right) ne))
 ]
   where
@@ -122,7 +128,8 @@ module _ (input : Input) where
   number_above (Some l ∷ rest) before n r (inr (w, b)) = let h = number_above rest (l ∷ before) n r b in omega arith
 
   -- no right line comes where the next is broken
-  next_broken : (l : Line) (lines before : List Line) (others : List (Option Line)) (r : Rule) → AreRight input ((lines ++ l ∷ []) ++ before) → IsBrokenAt input before (map Some (reverse (lines ++ l ∷ [])) ++ others) (suc (length before)) r → ⊥
+  next_broken : (l : Line) (lines before : List Line) (others : List (Option Line)) (r : Rule) → AreRight input ((lines ++ l ∷ []) ++ before)
+      → IsBrokenAt input before (map Some (reverse (lines ++ l ∷ [])) ++ others) (suc (length before)) r → ⊥
   next_broken l lines before others r w b = go (subst (λ (os : List (Option Line)). IsBrokenAt input before os (suc (length before)) r) first b)
     where
       first : map Some (reverse (lines ++ l ∷ [])) ++ others ≡ Some l ∷ (map Some (reverse lines) ++ others)
@@ -137,7 +144,8 @@ module _ (input : Input) where
 
 pub incomplete : IncompleteTellsNone
 incomplete kb names q before rest r w part b (early, later, same, right, at, all, ranked, n) = elim (compare before early rest later same) [
-  | inl (between, e, f) ↦ part (subst (AreConflictLists kb) (sym (ap conflicts_of e ∙ conflicts_kept (report_on kb names q) between early (subst (AreRight (report_on kb names q)) e w) all)) all)
+  | inl (between, e, f) ↦ part (subst (AreConflictLists kb) (sym
+      (ap conflicts_of e ∙ conflicts_kept (report_on kb names q) between early (subst (AreRight (report_on kb names q)) e w) all)) all)
   | inr (between, e, f) ↦ ends between e f (last between)
 ]
   where
@@ -145,11 +153,13 @@ incomplete kb names q before rest r w part b (early, later, same, right, at, all
     last [] = inl refl
     last (k ∷ ls) = elim (last ls) [ inl e ↦ inr ([], k, ap (λ (xs : List Line). k ∷ xs) e) | inr w ↦ inr (k ∷ w.0, w.1, ap (λ (xs : List Line). k ∷ xs) w.2) ]
 
-    ends : (between : List Line) → early ≡ between ++ before → rest ≡ map Some (reverse between) ++ later → (between ≡ []) ⊎ ((lines : List Line) × (l : Line) × (between ≡ lines ++ l ∷ [])) → ⊥
+    ends : (between : List Line) → early ≡ between ++ before → rest ≡ map Some (reverse between) ++ later → (between ≡ [])
+        ⊎ ((lines : List Line) × (l : Line) × (between ≡ lines ++ l ∷ [])) → ⊥
     ends between e f (inl none) = part (subst (AreConflictLists kb) (ap conflicts_of (e ∙ ap (λ (ls : List Line). ls ++ before) none)) all)
     ends between e f (inr (lines, l, g)) = next_broken (report_on kb names q) l lines before later r
         (subst (AreRight (report_on kb names q)) (e ∙ ap (λ (ls : List Line). ls ++ before) g) right)
-        (subst (λ (os : List (Option Line)). IsBrokenAt (report_on kb names q) before os (suc (length before)) r) (f ∙ ap (λ (ls : List Line). map Some (reverse ls) ++ later) g) b)
+        (subst (λ (os : List (Option Line)). IsBrokenAt (report_on kb names q) before os (suc (length before)) r)
+        (f ∙ ap (λ (ls : List Line). map Some (reverse ls) ++ later) g) b)
 
 -- ---- what is kept
 
@@ -158,7 +168,8 @@ first_acyclic kb all = inr (no_conflicts kb all)
 
 module _ (kb : Knowledge) (names : List (List ℕ)) (q : Query) (before : List Line) where
   stays : (l : Line) → Right (report_on kb names q) before l → ¬ IsConflictLine l → IsAcyclicSo kb before → IsAcyclicSo kb (l ∷ before)
-  stays (line.Head axioms budget facts keep repairs version) r n h all = inr (no_conflicts kb (subst (AreConflictLists kb) (ap conflicts_of (starts_empty before r.order)) all))
+  stays (line.Head axioms budget facts keep repairs version) r n h all =
+      inr (no_conflicts kb (subst (AreConflictLists kb) (ap conflicts_of (starts_empty before r.order)) all))
   stays (line.Conflict facts rule member) r n h all = absurd (n tt)
   stays (line.Cq o query step) r n h all = elim (h all) [ inl w ↦ inl (w.0, λ e. cc e) | inr a ↦ inr a ]
   stays (line.Ask candidate tuple causes members) r n h all = elim (h all) [ inl w ↦ inl (w.0, λ e. cc e) | inr a ↦ inr a ]
@@ -170,7 +181,8 @@ module _ (kb : Knowledge) (names : List (List ℕ)) (q : Query) (before : List L
   stays (line.Answer brave ar iar cores names tuple) r n h all = elim (h all) [ inl w ↦ inl (w.0, λ e. cc e) | inr a ↦ inr a ]
   stays (line.End answers brave ar iar undecided) r n h all = elim (h all) [ inl w ↦ inl (w.0, λ e. cc e) | inr a ↦ inr a ]
 
-  stopped : (rest : List (Option Line)) → AreRight (report_on kb names q) before → IsAcyclicSo kb before → HasCycle kb names q (map Some (reverse before) ++ rest) → ¬ AreConflictLists kb (conflicts_of before)
+  stopped : (rest : List (Option Line)) → AreRight (report_on kb names q) before → IsAcyclicSo kb before
+      → HasCycle kb names q (map Some (reverse before) ++ rest) → ¬ AreConflictLists kb (conflicts_of before)
   stopped rest w h cycle all = elim (h all) [
     | inl v ↦ all_repairs kb names q before rest w v.1 v.0 cycle
     | inr a ↦ acyclic kb names q (map Some (reverse before) ++ rest) a cycle

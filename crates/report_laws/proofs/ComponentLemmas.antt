@@ -10,7 +10,8 @@ use Rattle.report_text.specs.declared.line.Line.{Line}
 use Rattle.report_text.specs.declared.line.Line.TheVariants as line
 use Rattle.report_text.specs.declared.line.Origin.TheVariants as origin
 use Rattle.report_rules.specs.declared.place.Place.{Place}
-use Rattle.report_rules.specs.declared.place.Place.TheVariants.{AtStart, AfterHead, InBlock, InConflicts, AfterForget, InAnswer, InTry, AfterCore, AfterAnswer, AtEnd}
+use Rattle.report_rules.specs.declared.place.Place.TheVariants.{AtStart, AfterHead, InBlock, InConflicts, AfterForget, InAnswer, InTry, AfterCore}
+use Rattle.report_rules.specs.declared.place.Place.TheVariants.{AfterAnswer, AtEnd}
 use Rattle.report_rules.specs.Inputs.{Input, Form, OneQuery, selector_of}
 use Rattle.report_rules.specs.Order.{place_of, AreBlocksOver, MayHaveBlock, IsBetweenAnswers}
 use Rattle.report_rules.specs.Told.{query_of, block_of}
@@ -59,8 +60,13 @@ query_stands (line.Answer brave ar iar cores names tuple ∷ b) e = absurd (cc)
 query_stands (line.End answers brave ar iar undecided ∷ b) e = absurd (cc)
 
 -- a line of another block or kind leaves the block done
-left : (input : Input) (b : List Line) (l : Line) → Right input b l → (IsOfBlock origin.Query l → ⊥) → (IsLeft (place_of b) → IsDone input b) → (p : Place) → place_of b ≡ p → IsLater p → IsDone input b
-left input b l r n again (InBlock origin.Query) e h = record { stands = query_stands b e; closed = elim (r.closed origin.Query e) [ inl w ↦ absurd (n w) | inr c ↦ c ] }
+left : (input : Input) (b : List Line) (l : Line) → Right input b l → (IsOfBlock origin.Query l → ⊥) → (IsLeft (place_of b) → IsDone input b) → (p : Place)
+    → place_of b ≡ p → IsLater p → IsDone input b
+left input b l r n again (InBlock origin.Query) e h = record {
+  stands = query_stands b e;
+  closed =
+      elim (r.closed origin.Query e) [ inl w ↦ absurd (n w) | inr c ↦ c ];
+}
 left input b l r n again (InBlock (origin.Negative j)) e h = again (subst IsLeft (sym e) tt)
 left input b l r n again InConflicts e h = again (subst IsLeft (sym e) tt)
 left input b l r n again AfterForget e h = again (subst IsLeft (sym e) tt)
@@ -102,15 +108,35 @@ module _ (input : Input) (one : input.form ≡ OneQuery) where
   query_done (line.Head axioms budget facts keep repairs version ∷ b) r h = absurd h
   query_done (line.Cq origin.Query q step ∷ b) r h = absurd h
   query_done (line.End answers brave ar iar undecided ∷ b) r h = absurd h
-  query_done (line.Cq (origin.Negative j) q step ∷ b) (r, rs) h = let w = left input b (line.Cq (origin.Negative j) q step) r (λ e. absurd (cc)) (query_done b rs) (place_of b) refl (later_block input.kb.axioms (place_of b) j (subst (λ (f : Form). MayHaveBlock f input.kb.axioms (place_of b) (origin.Negative j)) one r.order)) in record { stands = w.stands; closed = w.closed }
-  query_done (line.Conflict facts rule member ∷ b) (r, rs) h = let w = left input b (line.Conflict facts rule member) r (λ e. e) (query_done b rs) (place_of b) refl (later_over input.kb.axioms (place_of b) (subst (λ (f : Form). AreBlocksOver f input.kb.axioms (place_of b)) one r.order)) in record { stands = w.stands; closed = w.closed }
-  query_done (line.Forget clauses ∷ b) (r, rs) h = let w = left input b (line.Forget clauses) r (λ e. e) (query_done b rs) (place_of b) refl (later_between input.kb.axioms (place_of b) (subst (λ (f : Form). IsBetweenAnswers f input.kb.axioms (place_of b)) one r.order)) in record { stands = w.stands; closed = w.closed }
-  query_done (line.Ask candidate tuple causes members ∷ b) (r, rs) h = let w = left input b (line.Ask candidate tuple causes members) r (λ e. e) (query_done b rs) (place_of b) refl (later_ask input.kb.axioms (place_of b) (subst (λ (f : Form). (place_of b ≡ AfterForget) ⊎ IsBetweenAnswers f input.kb.axioms (place_of b)) one r.order)) in record { stands = w.stands; closed = w.closed }
-  query_done (line.Try question assume ∷ b) (r, rs) h = let w = left input b (line.Try question assume) r (λ e. e) (query_done b rs) (place_of b) refl (subst IsLater (sym r.order) tt) in record { stands = w.stands; closed = w.closed }
-  query_done (line.Learn number clause ∷ b) (r, rs) h = let w = left input b (line.Learn number clause) r (λ e. e) (query_done b rs) (place_of b) refl (subst IsLater (sym r.order) tt) in record { stands = w.stands; closed = w.closed }
-  query_done (line.Core number kept dropped ∷ b) (r, rs) h = let w = left input b (line.Core number kept dropped) r (λ e. e) (query_done b rs) (place_of b) refl (subst IsLater (sym r.order) tt) in record { stands = w.stands; closed = w.closed }
-  query_done (line.Done how core ∷ b) (r, rs) h = let w = left input b (line.Done how core) r (λ e. e) (query_done b rs) (place_of b) refl (later_done (place_of b) r.order) in record { stands = w.stands; closed = w.closed }
-  query_done (line.Answer brave ar iar cores names tuple ∷ b) (r, rs) h = let w = left input b (line.Answer brave ar iar cores names tuple) r (λ e. e) (query_done b rs) (place_of b) refl (subst IsLater (sym r.order) tt) in record { stands = w.stands; closed = w.closed }
+  query_done (line.Cq (origin.Negative j) q step ∷ b) (r, rs) h = let w =
+      left input b (line.Cq (origin.Negative j) q step) r (λ e. absurd (cc)) (query_done b rs) (place_of b) refl
+      (later_block input.kb.axioms (place_of b) j (subst (λ (f : Form). MayHaveBlock f input.kb.axioms (place_of b) (origin.Negative j)) one r.order)) in
+      record { stands = w.stands; closed = w.closed }
+  query_done (line.Conflict facts rule member ∷ b) (r, rs) h = let w =
+      left input b (line.Conflict facts rule member) r (λ e. e) (query_done b rs) (place_of b) refl
+      (later_over input.kb.axioms (place_of b) (subst (λ (f : Form). AreBlocksOver f input.kb.axioms (place_of b)) one r.order)) in
+      record { stands = w.stands; closed = w.closed }
+  query_done (line.Forget clauses ∷ b) (r, rs) h = let w = left input b (line.Forget clauses) r (λ e. e) (query_done b rs) (place_of b) refl
+      (later_between input.kb.axioms (place_of b) (subst (λ (f : Form). IsBetweenAnswers f input.kb.axioms (place_of b)) one r.order)) in
+      record { stands = w.stands; closed = w.closed }
+  query_done (line.Ask candidate tuple causes members ∷ b) (r, rs) h = let w =
+      left input b (line.Ask candidate tuple causes members) r (λ e. e) (query_done b rs) (place_of b) refl
+      (later_ask input.kb.axioms (place_of b) (subst (λ (f : Form). (place_of b ≡ AfterForget) ⊎ IsBetweenAnswers f input.kb.axioms (place_of b)) one
+      r.order)) in record { stands = w.stands; closed = w.closed }
+  query_done (line.Try question assume ∷ b) (r, rs) h = let w =
+      left input b (line.Try question assume) r (λ e. e) (query_done b rs) (place_of b) refl (subst IsLater (sym r.order) tt) in
+      record { stands = w.stands; closed = w.closed }
+  query_done (line.Learn number clause ∷ b) (r, rs) h = let w =
+      left input b (line.Learn number clause) r (λ e. e) (query_done b rs) (place_of b) refl (subst IsLater (sym r.order) tt) in
+      record { stands = w.stands; closed = w.closed }
+  query_done (line.Core number kept dropped ∷ b) (r, rs) h = let w =
+      left input b (line.Core number kept dropped) r (λ e. e) (query_done b rs) (place_of b) refl (subst IsLater (sym r.order) tt) in
+      record { stands = w.stands; closed = w.closed }
+  query_done (line.Done how core ∷ b) (r, rs) h = let w = left input b (line.Done how core) r (λ e. e) (query_done b rs) (place_of b) refl
+      (later_done (place_of b) r.order) in record { stands = w.stands; closed = w.closed }
+  query_done (line.Answer brave ar iar cores names tuple ∷ b) (r, rs) h = let w =
+      left input b (line.Answer brave ar iar cores names tuple) r (λ e. e) (query_done b rs) (place_of b) refl (subst IsLater (sym r.order) tt) in
+      record { stands = w.stands; closed = w.closed }
 
 pub query_block : QueryBlockStands
 query_block input b r one w = by (place_of b) refl (subst (λ (f : Form). AreBlocksOver f input.kb.axioms (place_of b)) one w.over)
@@ -131,7 +157,8 @@ tells_equal m n = (eqb-true m n, eq-eqb m n)
 
 pub told : LearnableIsTold
 told kb a facts are l = tells_like (may_learn (selector_of kb a.candidate) facts l)
-    (tells_either (has facts (variable_of l)) (eqb l (absent (selector_of kb a.candidate))) (tells_has facts (variable_of l)) (tells_equal l (absent (selector_of kb a.candidate))))
+    (tells_either (has facts (variable_of l)) (eqb l (absent (selector_of kb a.candidate))) (tells_has facts (variable_of l))
+    (tells_equal l (absent (selector_of kb a.candidate))))
     (elim [ inl m ↦ inl (variable_of l, literal_cases l, ((are.exact (variable_of l)).0 m).0, ((are.exact (variable_of l)).0 m).1) | inr e ↦ inr e ])
     (elim [ inl w ↦ inl (subst (Contains facts) (same w.0 w.1) ((are.exact w.0).1 (w.2, w.3))) | inr e ↦ inr e ])
   where

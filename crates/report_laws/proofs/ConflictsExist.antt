@@ -1,5 +1,6 @@
 -- Each table has the exact lists of its conflicts, and each input its priority.
-use Rattle.std.proofs.Common.{◌≡◌, ℕ, zero, suc, ◌<◌, ◌≤◌, ◌⊎◌, ◌↔◌, inl, inr, List, [], ◌++◌, length, map, filter, Contains, AllPairs, Bool, true, false, true≢false, refl, sym, subst, ◌∙◌, arith}
+use Rattle.std.proofs.Common.{◌≡◌, ℕ, zero, suc, ◌<◌, ◌≤◌, ◌⊎◌, ◌↔◌, inl, inr, List, [], ◌++◌, length, map, filter, Contains, AllPairs, Bool, true, false}
+use Rattle.std.proofs.Common.{true≢false, refl, sym, subst, ◌∙◌, arith}
 use Rattle.std.proofs.lemmas.Bool.{cases_Bool, cases_lt, cases_eq}
 use Rattle.cq_terms.specs.declared.facts.Pair.{Pair}
 use Rattle.cq_terms.specs.declared.facts.Repairs.{Repairs}
@@ -34,7 +35,8 @@ conflict_or_not kb i j = elim (cases_lt i (length kb.facts)) [
     beyond : (k : ℕ) → length kb.facts ≤ k → k < length kb.facts → ⊥
     beyond k past l = omega arith
 
-    told : i < length kb.facts → j < length kb.facts → (clash : ℕ → ℕ → Bool) → ((i j : ℕ) → i < length kb.facts → j < length kb.facts → (clash i j ≡ true) ↔ Conflict kb i j) → Conflict kb i j ⊎ (Conflict kb i j → ⊥)
+    told : i < length kb.facts → j < length kb.facts → (clash : ℕ → ℕ → Bool)
+        → ((i j : ℕ) → i < length kb.facts → j < length kb.facts → (clash i j ≡ true) ↔ Conflict kb i j) → Conflict kb i j ⊎ (Conflict kb i j → ⊥)
     told il jl clash iff = elim (cases_Bool (clash i j)) [
       | inl t ↦ inl ((iff i j il jl).0 t)
       | inr f ↦ inr (λ c. true≢false (sym ((iff i j il jl).1 c) ∙ f))
@@ -50,7 +52,8 @@ own_or_not kb i = elim (cases_lt i (length kb.facts)) [
     beyond : length kb.facts ≤ i → i < length kb.facts → ⊥
     beyond past l = omega arith
 
-    told : i < length kb.facts → (own : ℕ → Bool) → ((i : ℕ) → i < length kb.facts → (own i ≡ true) ↔ IsSelfInconsistent kb i) → ((i < length kb.facts) × IsSelfInconsistent kb i) ⊎ ((i < length kb.facts) × IsSelfInconsistent kb i → ⊥)
+    told : i < length kb.facts → (own : ℕ → Bool) → ((i : ℕ) → i < length kb.facts → (own i ≡ true) ↔ IsSelfInconsistent kb i)
+        → ((i < length kb.facts) × IsSelfInconsistent kb i) ⊎ ((i < length kb.facts) × IsSelfInconsistent kb i → ⊥)
     told l own iff = elim (cases_Bool (own i)) [
       | inl t ↦ inl (l, (iff i l).0 t)
       | inr f ↦ inr (λ w. true≢false (sym ((iff i l).1 w.1) ∙ f))
@@ -67,7 +70,14 @@ record ArePairsBelow (kb : Knowledge) (n : ℕ) (pairs : List (ℕ × ℕ)) : Ty
   exact : (i j : ℕ) → Contains pairs (i, j) ↔ ((i < n) × (i < j) × Conflict kb i j)
 
 pairs_below : (kb : Knowledge) (n : ℕ) → (pairs : List (ℕ × ℕ)) × ArePairsBelow kb n pairs
-pairs_below kb zero = ([], record { ordered = λ i j d a b. absurd (omega arith); exact = λ i j. ((λ m. absurd (Contains-nil (couple_of i j) m)), (λ w. let l = w.0 in absurd (omega arith))) })
+pairs_below kb zero = (
+  [],
+  record {
+    ordered = λ i j d a b. absurd (omega arith);
+    exact =
+        λ i j. ((λ m. absurd (Contains-nil (couple_of i j) m)), (λ w. let l = w.0 in absurd (omega arith)));
+  },
+)
 pairs_below kb (suc n) = joined (pairs_below kb n) (with_property (λ j. (n < j) × Conflict kb n j) decide (length kb.facts))
   where
     decide : (j : ℕ) → ((n < j) × Conflict kb n j) ⊎ ((n < j) × Conflict kb n j → ⊥)
@@ -82,7 +92,8 @@ pairs_below kb (suc n) = joined (pairs_below kb n) (with_property (λ j. (n < j)
     joined (pairs, w) (later, up, each) = (
       pairs ++ map (couple_of n) later,
       record {
-        ordered = AllPairs-append IsBefore pairs (map (couple_of n) later) w.ordered (AllPairs-map (λ (a b : ℕ). a < b) IsBefore (couple_of n) (λ a b l. inr (refl, l)) later up) before;
+        ordered = AllPairs-append IsBefore pairs (map (couple_of n) later) w.ordered
+            (AllPairs-map (λ (a b : ℕ). a < b) IsBefore (couple_of n) (λ a b l. inr (refl, l)) later up) before;
         exact = λ i j. (to i j, λ (l, o, c). from i j l o c (cases_eq i n));
       },
     )
@@ -102,8 +113,12 @@ pairs_below kb (suc n) = joined (pairs_below kb n) (with_property (λ j. (n < j)
         ]
 
         from : (i j : ℕ) → i < suc n → i < j → Conflict kb i j → (i ≡ n) ⊎ (i ≡ n → ⊥) → Contains (pairs ++ map (couple_of n) later) (i, j)
-        from i j l o c (inl e) = append_right pairs (map (couple_of n) later) (couple_of i j) (subst (λ (x : ℕ). Contains (map (couple_of n) later) (couple_of x j)) (sym e)
-            (Contains-map (couple_of n) later j ((each j).1 (Conflict-within kb j i (Conflict-sym kb i j c), (subst (λ x. x < j) e o, subst (λ x. Conflict kb x j) e c)))))
+        from i j l o c (inl e) = append_right pairs (map (couple_of n) later) (couple_of i j)
+            (subst (λ (x : ℕ). Contains (map (couple_of n) later) (couple_of x j)) (sym e)
+            (Contains-map (couple_of n) later j ((each j).1 (
+              Conflict-within kb j i (Conflict-sym kb i j c),
+              (subst (λ x. x < j) e o, subst (λ x. Conflict kb x j) e c),
+            ))))
         from i j l o c (inr d) = append_left pairs (map (couple_of n) later) (couple_of i j) ((w.exact i j).1 (grind arith, o, c))
 
 -- each table has the exact lists of its conflicts

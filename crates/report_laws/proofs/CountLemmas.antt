@@ -1,5 +1,6 @@
 -- A large enough budget decides: the clauses learned in one question of an answer are fewer than 3 to the number of variables.
-use Rattle.std.proofs.Common.{◌≡◌, ◌≢◌, ℕ, suc, ◌<◌, ◌≤◌, ◌^◌, inl, inr, List, [], ◌∷◌, length, map, Contains, All, Bool, true, false, Some, None, eqb, refl, sym, subst, ap, cond, arith}
+use Rattle.std.proofs.Common.{◌≡◌, ◌≢◌, ℕ, suc, ◌<◌, ◌≤◌, ◌^◌, inl, inr, List, [], ◌∷◌, length, map, Contains, All, Bool, true, false, Some, None, eqb, refl}
+use Rattle.std.proofs.Common.{sym, subst, ap, cond, arith}
 use Rattle.std.specs.List.{IsDistinct}
 use Rattle.std.proofs.lemmas.List.Elements.{All-contains, Contains-append_left, Contains-push}
 use Rattle.cq_terms.specs.Knowledge.{Knowledge}
@@ -35,7 +36,8 @@ length-clauses_for q [] = refl
 length-clauses_for q (line.Ask candidate tuple causes members ∷ b) = refl
 length-clauses_for q (line.Learn number clause ∷ b) = go (same_question q (question_of b)) (length-clauses_for q b)
   where
-    go : (t : Bool) → length (clauses_for q b) ≡ learned_for q b → length (cond t (clause ∷ clauses_for q b) (clauses_for q b)) ≡ cond t (suc (learned_for q b)) (learned_for q b)
+    go : (t : Bool) → length (clauses_for q b) ≡ learned_for q b
+        → length (cond t (clause ∷ clauses_for q b) (clauses_for q b)) ≡ cond t (suc (learned_for q b)) (learned_for q b)
     go true e = ap suc e
     go false e = e
 length-clauses_for q (line.Head axioms budget facts keep repairs version ∷ b) = length-clauses_for q b
@@ -55,7 +57,8 @@ record IsFine (kb : Knowledge) (a : Asked) (c : List ℕ) : Type 0 where
   literals : All (MayLearn kb a) c
 
 -- each of them is fine, and lives to the end of the answer
-fine_for : (input : Input) (q : Question) (b : List Line) → IsRightAnswer input b → (d : List ℕ) → Contains (clauses_for q b) d → IsFine input.kb (asked b) d × IsLearned input.kb b d
+fine_for : (input : Input) (q : Question) (b : List Line) → IsRightAnswer input b → (d : List ℕ) → Contains (clauses_for q b) d → IsFine input.kb (asked b) d
+    × IsLearned input.kb b d
 unfolding clauses_for
 fine_for input q (line.Ask candidate tuple causes members ∷ b) r d m = absurd (Contains-nil d m)
 fine_for input q (line.Try question assume ∷ b) (r, rs) d m = fine_for input q b rs d m
@@ -72,7 +75,8 @@ fine_for input q (line.Learn number clause ∷ b) (r, rs) d m = go (same_questio
       (number, Contains-push (learned (length input.kb.facts) b) (record { number = number; clause = clause })),
     )
 
-    go : (t : Bool) → Contains (cond t (clause ∷ clauses_for q b) (clauses_for q b)) d → (Contains (clauses_for q b) d → IsFine input.kb (asked b) d × IsLearned input.kb b d)
+    go : (t : Bool) → Contains (cond t (clause ∷ clauses_for q b) (clauses_for q b)) d
+        → (Contains (clauses_for q b) d → IsFine input.kb (asked b) d × IsLearned input.kb b d)
         → IsFine input.kb (asked b) d × IsLearned input.kb (line.Learn number clause ∷ b) d
     go true k again = elim (Contains-cases clause (clauses_for q b) d k) [ inl e ↦ new e | inr h ↦ later (again h) ]
     go false k again = later (again k)
@@ -91,7 +95,8 @@ abbrev pub Covers : Knowledge → List ℕ → Asked → Type 0
 Covers kb variables a = (l : ℕ) → MayLearn kb a l → (x : ℕ) × Contains variables x × IsOf l x
 
 -- a clause of the same number has all literals of a learned one
-same_code_within : (kb : Knowledge) (variables : List ℕ) (a : Asked) → Covers kb variables a → (c d : List ℕ) → IsFine kb a d → code variables c ≡ code variables d → IsWithin d c
+same_code_within : (kb : Knowledge) (variables : List ℕ) (a : Asked) → Covers kb variables a → (c d : List ℕ) → IsFine kb a d
+    → code variables c ≡ code variables d → IsWithin d c
 same_code_within kb variables a cover c d fd e l m =
     let (x, k, o) = cover l (All-contains (MayLearn kb a) d l fd.literals m) in
     same_code variables c d fd.distinct e x l k o m
@@ -104,20 +109,23 @@ fine_positive kb variables a cover (l ∷ c) f =
     code_positive variables (l ∷ c) x l k o (Contains-head l c)
 
 -- they have different numbers, since none contains a live clause
-distinct_codes : (input : Input) (variables : List ℕ) (q : Question) (b : List Line) → IsRightAnswer input b → Covers input.kb variables (asked b) → IsDistinct eqb (map (code variables) (clauses_for q b))
+distinct_codes : (input : Input) (variables : List ℕ) (q : Question) (b : List Line) → IsRightAnswer input b → Covers input.kb variables (asked b)
+    → IsDistinct eqb (map (code variables) (clauses_for q b))
 unfolding clauses_for
 distinct_codes input variables q (line.Ask candidate tuple causes members ∷ b) r cover = distinct_none variables
 distinct_codes input variables q (line.Try question assume ∷ b) (r, rs) cover = distinct_codes input variables q b rs cover
 distinct_codes input variables q (line.Core number kept dropped ∷ b) (r, rs) cover = distinct_codes input variables q b rs cover
 distinct_codes input variables q (line.Done how core ∷ b) (r, rs) cover = distinct_codes input variables q b rs cover
-distinct_codes input variables q (line.Learn number clause ∷ b) (r, rs) cover = go (same_question q (question_of b)) (distinct_codes input variables q b rs cover)
+distinct_codes input variables q (line.Learn number clause ∷ b) (r, rs) cover =
+    go (same_question q (question_of b)) (distinct_codes input variables q b rs cover)
   where
     new : (d : List ℕ) → Contains (clauses_for q b) d → code variables clause ≢ code variables d
     new d m e =
         let w = fine_for input q b rs d m in
         r.own.new (d, inr (inr w.1), same_code_within input.kb variables (asked b) cover clause d w.0 e)
 
-    go : (t : Bool) → IsDistinct eqb (map (code variables) (clauses_for q b)) → IsDistinct eqb (map (code variables) (cond t (clause ∷ clauses_for q b) (clauses_for q b)))
+    go : (t : Bool) → IsDistinct eqb (map (code variables) (clauses_for q b))
+        → IsDistinct eqb (map (code variables) (cond t (clause ∷ clauses_for q b) (clauses_for q b)))
     go true h = distinct_more variables clause (clauses_for q b) new h
     go false h = h
 distinct_codes input variables q [] r cover = absurd r
@@ -129,9 +137,11 @@ distinct_codes input variables q (line.Answer brave ar iar cores names tuple ∷
 distinct_codes input variables q (line.End answers brave ar iar undecided ∷ b) (r, rs) cover = absurd r.own
 
 -- they are fewer than 3 to the number of variables
-learned_fewer : (input : Input) (variables : List ℕ) (q : Question) (b : List Line) → IsRightAnswer input b → Covers input.kb variables (asked b) → learned_for q b < 3 ^ length variables
+learned_fewer : (input : Input) (variables : List ℕ) (q : Question) (b : List Line) → IsRightAnswer input b → Covers input.kb variables (asked b)
+    → learned_for q b < 3 ^ length variables
 learned_fewer input variables q b r cover =
-    let few = fewer variables (clauses_for q b) (λ d m. fine_positive input.kb variables (asked b) cover d (fine_for input q b r d m).0) (distinct_codes input variables q b r cover) in
+    let few = fewer variables (clauses_for q b) (λ d m. fine_positive input.kb variables (asked b) cover d (fine_for input q b r d m).0)
+    (distinct_codes input variables q b r cover) in
     omega (arith, length-clauses_for q b)
 
 -- ---- spent tries
@@ -146,15 +156,19 @@ record SpentBefore (input : Input) (b : List Line) : Type 0 where
 
 spent_before : (input : Input) (b : List Line) → IsRightAnswer input b → (q : Question) (assume : List ℕ) → Ended q assume how.Spent b → SpentBefore input b
 spent_before input (line.Ask candidate tuple causes members ∷ b) r q assume e = absurd e
-spent_before input (line.Try question assume' ∷ b) (r, rs) q assume e = let w = spent_before input b rs q assume e in record { early = w.early; right = w.right; same_asked = w.same_asked; question = w.question; all = w.all }
-spent_before input (line.Learn number clause ∷ b) (r, rs) q assume e = let w = spent_before input b rs q assume e in record { early = w.early; right = w.right; same_asked = w.same_asked; question = w.question; all = w.all }
-spent_before input (line.Core number kept dropped ∷ b) (r, rs) q assume e = let w = spent_before input b rs q assume e in record { early = w.early; right = w.right; same_asked = w.same_asked; question = w.question; all = w.all }
+spent_before input (line.Try question assume' ∷ b) (r, rs) q assume e = let w = spent_before input b rs q assume e in
+    record { early = w.early; right = w.right; same_asked = w.same_asked; question = w.question; all = w.all }
+spent_before input (line.Learn number clause ∷ b) (r, rs) q assume e = let w = spent_before input b rs q assume e in
+    record { early = w.early; right = w.right; same_asked = w.same_asked; question = w.question; all = w.all }
+spent_before input (line.Core number kept dropped ∷ b) (r, rs) q assume e = let w = spent_before input b rs q assume e in
+    record { early = w.early; right = w.right; same_asked = w.same_asked; question = w.question; all = w.all }
 spent_before input (line.Done how.Spent None ∷ b) (r, rs) q assume (inl (eq, ea, eh)) =
     record { early = b; right = rs; same_asked = refl; question = question_of b; all = r.own.budget }
 spent_before input (line.Done how.Spent (Some n) ∷ b) (r, rs) q assume (inl (eq, ea, eh)) = absurd r.own
 spent_before input (line.Done how.Model core ∷ b) (r, rs) q assume (inl (eq, ea, eh)) = absurd (cc)
 spent_before input (line.Done how.Refuted core ∷ b) (r, rs) q assume (inl (eq, ea, eh)) = absurd (cc)
-spent_before input (line.Done h core ∷ b) (r, rs) q assume (inr e) = let w = spent_before input b rs q assume e in record { early = w.early; right = w.right; same_asked = w.same_asked; question = w.question; all = w.all }
+spent_before input (line.Done h core ∷ b) (r, rs) q assume (inr e) = let w = spent_before input b rs q assume e in
+    record { early = w.early; right = w.right; same_asked = w.same_asked; question = w.question; all = w.all }
 spent_before input [] r q assume e = absurd e
 spent_before input (line.Head axioms budget facts keep repairs version ∷ b) (r, rs) q assume e = absurd r.own
 spent_before input (line.Cq origin query step ∷ b) (r, rs) q assume e = absurd r.own
@@ -164,7 +178,8 @@ spent_before input (line.Answer brave ar iar cores names tuple ∷ b) (r, rs) q 
 spent_before input (line.End answers brave ar iar undecided ∷ b) (r, rs) q assume e = absurd r.own
 
 -- no try is spent under a large enough budget
-none_spent : (input : Input) (variables : List ℕ) (b : List Line) → IsRightAnswer input b → Covers input.kb variables (asked b) → 3 ^ length variables ≤ budget_of b
+none_spent : (input : Input) (variables : List ℕ) (b : List Line) → IsRightAnswer input b → Covers input.kb variables (asked b)
+    → 3 ^ length variables ≤ budget_of b
     → (q : Question) (assume : List ℕ) → Ended q assume how.Spent b → ⊥
 none_spent input variables b r cover large q assume e =
     let w = spent_before input b r q assume e in
@@ -172,7 +187,8 @@ none_spent input variables b r cover large q assume e =
     omega (arith, w.all)
 
 -- and no question
-pub no_verdict_open : (input : Input) (variables : List ℕ) (b : List Line) → IsRightAnswer input b → Covers input.kb variables (asked b) → 3 ^ length variables ≤ budget_of b
+pub no_verdict_open : (input : Input) (variables : List ℕ) (b : List Line) → IsRightAnswer input b → Covers input.kb variables (asked b)
+    → 3 ^ length variables ≤ budget_of b
     → (cores : List ℕ) (q : Question) → ¬ IsSpent input.kb b cores q
 no_verdict_open input variables b r cover large cores question.Brave (all, (cause, m, e)) = none_spent input variables b r cover large question.Brave _ e
 no_verdict_open input variables b r cover large cores question.Ar e = none_spent input variables b r cover large question.Ar _ e

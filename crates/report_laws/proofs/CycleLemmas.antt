@@ -1,5 +1,6 @@
 -- Accepted pieces for which no cycle is told are true.
-use Rattle.std.proofs.Common.{◌≡◌, ℕ, zero, suc, ◌<◌, ◌≤◌, ◌⊎◌, arith, inl, inr, List, [], ◌∷◌, ◌++◌, map, Contains, Option, Some, None, refl, sym, subst, ap, ◌∙◌}
+use Rattle.std.proofs.Common.{◌≡◌, ℕ, zero, suc, ◌<◌, ◌≤◌, ◌⊎◌, arith, inl, inr, List, [], ◌∷◌, ◌++◌, map, Contains, Option, Some, None, refl, sym, subst, ap}
+use Rattle.std.proofs.Common.{◌∙◌}
 use Rattle.std.specs.Prelude.{reverse}
 use Rattle.std.proofs.lemmas.Bool.{cases_lt}
 use Rattle.std.proofs.lemmas.List.{append-nil, reverse-reverse}
@@ -78,11 +79,13 @@ step_of input (line.Forget clauses) b r = inr (inr (refl, refl))
 step_of input (line.Answer brave ar iar cores names tuple) b r = inr (inr (refl, refl))
 step_of input (line.End answers brave ar iar undecided) b r = inr (inr (refl, refl))
 
-up_to : (input : Input) (before : List Line) → AreRight input before → (rest : List (Option Line)) → UpToConflicts input before rest ⊎ (conflicts_of before ≡ [])
+up_to : (input : Input) (before : List Line) → AreRight input before → (rest : List (Option Line)) → UpToConflicts input before rest
+    ⊎ (conflicts_of before ≡ [])
 up_to input [] r rest = inr refl
 up_to input (x ∷ b) (r, rs) rest = go (step_of input x b r) (up_to input b rs (Some x ∷ rest))
   where
-    go : (place_of (x ∷ b) ≡ InConflicts) ⊎ (((b ≡ []) × (conflicts_of (x ∷ b) ≡ [])) ⊎ ((conflicts_of b ≡ conflicts_of (x ∷ b)) × (mode_of b ≡ mode_of (x ∷ b))))
+    go : (place_of (x ∷ b) ≡ InConflicts) ⊎ (((b ≡ []) × (conflicts_of (x ∷ b) ≡ []))
+        ⊎ ((conflicts_of b ≡ conflicts_of (x ∷ b)) × (mode_of b ≡ mode_of (x ∷ b))))
         → UpToConflicts input b (Some x ∷ rest) ⊎ (conflicts_of b ≡ []) → UpToConflicts input (x ∷ b) rest ⊎ (conflicts_of (x ∷ b) ≡ [])
     go (inl e) again = inl (record { early = x ∷ b; later = rest; same = refl; right = (r, rs); at = e; same_conflicts = refl; same_mode = refl })
     go (inr (inl e)) again = inr e.1
@@ -98,17 +101,28 @@ up_to input (x ∷ b) (r, rs) rest = go (step_of input x b r) (up_to input b rs 
     go (inr (inr (c, m))) (inr e) = inr (sym c ∙ e)
 
 -- where no cycle is told, the priority is acyclic
-acyclic_of : (kb : Knowledge) (names : List (List ℕ)) (q : Query) (before : List Line) → AreRight (report_on kb names q) before → AreConflictLists kb (conflicts_of before)
+acyclic_of : (kb : Knowledge) (names : List (List ℕ)) (q : Query) (before : List Line) → AreRight (report_on kb names q) before
+    → AreConflictLists kb (conflicts_of before)
     → ¬ HasCycle kb names q (map Some (reverse before)) → IsAcyclic kb (mode_of before)
 acyclic_of kb names q before r w n = go (mode_of before) refl (up_to (report_on kb names q) before r [])
   where
     go : (m : Repairs) → mode_of before ≡ m → UpToConflicts (report_on kb names q) before [] ⊎ (conflicts_of before ≡ []) → IsAcyclic kb m
     go mode.All e u = all_acyclic kb
     go mode.Pareto e (inr c) = none_acyclic kb mode.Pareto (λ i j b. no_conflict kb (conflicts_of before) c w i j b.conflict)
-    go mode.Pareto e (inl u) = λ k i b. n (u.early, u.later, sym (append-nil (map Some (reverse before))) ∙ u.same, u.right, u.at, subst (AreConflictLists kb) (sym u.same_conflicts) w, u.same_mode ∙ e, (λ a. a k i b))
+    go mode.Pareto e (inl u) = λ k i b. n (
+      u.early,
+      u.later,
+      sym (append-nil (map Some (reverse before))) ∙ u.same,
+      u.right,
+      u.at,
+      subst (AreConflictLists kb) (sym u.same_conflicts) w,
+      u.same_mode ∙ e,
+      (λ a. a k i b),
+    )
 
 -- at the end all conflicts are told
-pub conflicts_complete : (input : Input) (before : List Line) → AreRight input before → place_of before ≡ AtEnd → AreConflictLists input.kb (conflicts_of before)
+pub conflicts_complete : (input : Input) (before : List Line) → AreRight input before → place_of before ≡ AtEnd
+    → AreConflictLists input.kb (conflicts_of before)
 conflicts_complete input (line.End answers brave ar iar undecided ∷ b) (r, rs) e = r.complete
 conflicts_complete input (line.Head _ _ _ _ _ _ ∷ b) r e = absurd (cc)
 conflicts_complete input (line.Cq _ _ _ ∷ b) r e = absurd (cc)
@@ -129,13 +143,16 @@ all_lines input before (None ∷ pieces) a = absurd a
 all_lines input before (Some l ∷ pieces) (r, a) = ap (λ xs. Some l ∷ xs) (all_lines input (l ∷ before) pieces a)
 
 -- an accepted report for which no cycle is told is true
-lines_true : (kb : Knowledge) (names : List (List ℕ)) (q : Query) (lines : List Line) → IsAccepted kb names q (map Some lines) → ¬ HasCycle kb names q (map Some lines) → AreTrueAnswers kb q lines
+lines_true : (kb : Knowledge) (names : List (List ℕ)) (q : Query) (lines : List Line) → IsAccepted kb names q (map Some lines)
+    → ¬ HasCycle kb names q (map Some lines) → AreTrueAnswers kb q lines
 lines_true kb names q lines a n =
     let w = (accepted_pieces kb names q lines).0 a in
-    accepted_is_true kb names q lines w (acyclic_of kb names q (reverse lines) w.right (conflicts_complete (report_on kb names q) (reverse lines) w.right w.ended)
+    accepted_is_true kb names q lines w (acyclic_of kb names q (reverse lines) w.right
+    (conflicts_complete (report_on kb names q) (reverse lines) w.right w.ended)
     (subst (λ xs. ¬ HasCycle kb names q (map Some xs)) (sym (reverse-reverse lines)) n))
 
-pub confirmed_is_true : (kb : Knowledge) (names : List (List ℕ)) (q : Query) (pieces : List (Option Line)) → IsAccepted kb names q pieces → ¬ HasCycle kb names q pieces → AreTrueAnswers kb q (lines_of pieces)
+pub confirmed_is_true : (kb : Knowledge) (names : List (List ℕ)) (q : Query) (pieces : List (Option Line)) → IsAccepted kb names q pieces
+    → ¬ HasCycle kb names q pieces → AreTrueAnswers kb q (lines_of pieces)
 confirmed_is_true kb names q pieces a n =
     let same = all_lines (report_on kb names q) [] pieces a in
     lines_true kb names q (lines_of pieces) (subst (IsAccepted kb names q) (sym same) a) (λ h. n (subst (HasCycle kb names q) same h))

@@ -28,10 +28,11 @@ IsRival kb facts j = (i : ℕ) × Contains facts i × Conflict kb i j
 
 module _ (kb : Knowledge) (facts : List ℕ) (within : (i : ℕ) → Contains facts i → i < length kb.facts) where
   rival_or_not : (j : ℕ) → IsRival kb facts j ⊎ (IsRival kb facts j → ⊥)
-  rival_or_not j = elim (all_or_some (λ i. Conflict kb i j → ⊥) (λ i. Conflict kb i j) (λ i. elim (conflict_or_not kb i j) [ inl c ↦ inr c | inr n ↦ inl n ]) facts) [
-    | inl none ↦ inr (λ (i, m, c). none i m c)
-    | inr w ↦ inl w
-  ]
+  rival_or_not j = elim (all_or_some (λ i. Conflict kb i j → ⊥) (λ i. Conflict kb i j) (λ i. elim (conflict_or_not kb i j) [ inl c ↦ inr c | inr n ↦ inl n ])
+      facts) [
+        | inl none ↦ inr (λ (i, m, c). none i m c)
+        | inr w ↦ inl w
+      ]
 
   -- the list of the facts that conflict with one of these
   rivals : (dropped : List ℕ) × AreRivals kb facts dropped
@@ -51,13 +52,15 @@ module _ (kb : Knowledge) (facts : List ℕ) (within : (i : ℕ) → Contains fa
     },
   )
     where
-      blocked : (j : ℕ) → IsRival kb facts j → IsSelfInconsistent kb j ⊎ ((i : ℕ) × (i < length kb.facts) × IsTrue (has facts i) × Conflict kb j i × ¬ IsBetter kb modes.All j i)
+      blocked : (j : ℕ) → IsRival kb facts j → IsSelfInconsistent kb j
+          ⊎ ((i : ℕ) × (i < length kb.facts) × IsTrue (has facts i) × Conflict kb j i × ¬ IsBetter kb modes.All j i)
       blocked j (i, m, w) = inr (i, within i m, has_true facts i m, Conflict-sym kb i j w, λ b. b.ranked refl)
 
 -- ---- a fact in no conflict has a unit base clause
 
 -- it is present where it is consistent alone
-pub base_present : (kb : Knowledge) (mode : Repairs) (i : ℕ) → i < length kb.facts → AreConsistent kb (Only i) → ((j : ℕ) → Conflict kb i j → ⊥) → IsBaseClause kb mode (present i ∷ [])
+pub base_present : (kb : Knowledge) (mode : Repairs) (i : ℕ) → i < length kb.facts → AreConsistent kb (Only i) → ((j : ℕ) → Conflict kb i j → ⊥)
+    → IsBaseClause kb mode (present i ∷ [])
 base_present kb mode i il alone none =
     let (p, of) = priority_exists kb mode in
     let m = means kb mode p of in

@@ -47,7 +47,8 @@ use Rattle.report_laws.proofs.DirectCores.{direct_in_all, base_present}
 -- ---- spent tries
 
 -- the open try has assumptions that it may have
-pub try_right : (input : Input) (b : List Line) → IsRightAnswer input b → (place_of b ≡ InTry) ⊎ (place_of b ≡ AfterCore) → MayAssume input.kb (asked b) (question_of b) (assumed b)
+pub try_right : (input : Input) (b : List Line) → IsRightAnswer input b → (place_of b ≡ InTry) ⊎ (place_of b ≡ AfterCore)
+    → MayAssume input.kb (asked b) (question_of b) (assumed b)
 try_right input (line.Try question assume ∷ b) (r, rs) p = r.own.assumes
 try_right input (line.Learn number clause ∷ b) (r, rs) p = try_right input b rs (inl r.order)
 try_right input (line.Core number kept dropped ∷ b) (r, rs) p = try_right input b rs (inl r.order)
@@ -62,7 +63,8 @@ try_right input (line.End _ _ _ _ _ ∷ b) r p = absurd (elim p [ inl e ↦ (cc)
 try_right input [] r p = absurd (elim p [ inl e ↦ (cc) | inr e ↦ (cc) ])
 
 -- after right lines too
-pub try_assumes : (input : Input) (b : List Line) → AreRight input b → (place_of b ≡ InTry) ⊎ (place_of b ≡ AfterCore) → MayAssume input.kb (asked b) (question_of b) (assumed b)
+pub try_assumes : (input : Input) (b : List Line) → AreRight input b → (place_of b ≡ InTry) ⊎ (place_of b ≡ AfterCore)
+    → MayAssume input.kb (asked b) (question_of b) (assumed b)
 try_assumes input b r p = try_right input b (opens_rightly input b r (try_open (place_of b) p)).0 p
 
 -- the lines before the end of a spent try on the question under the assumptions
@@ -75,21 +77,58 @@ record SpentAfter (input : Input) (b : List Line) (q : Question) (assume : List 
   spent : SpentIsRight input early
   may : MayAssume input.kb (asked early) (question_of early) (assumed early)
 
-spent_after : (input : Input) (b : List Line) → IsRightAnswer input b → (q : Question) (assume : List ℕ) → Ended q assume how.Spent b → SpentAfter input b q assume
+spent_after : (input : Input) (b : List Line) → IsRightAnswer input b → (q : Question) (assume : List ℕ) → Ended q assume how.Spent b
+    → SpentAfter input b q assume
 spent_after input (line.Ask candidate tuple causes members ∷ b) r q assume e = absurd e
 spent_after input (line.Try question assume' ∷ b) (r, rs) q assume e = let w = spent_after input b rs q assume e in
-    record { early = w.early; same_mode = w.same_mode; same_asked = w.same_asked; question_is = w.question_is; assumed_is = w.assumed_is; spent = w.spent; may = w.may }
+    record {
+      early = w.early;
+      same_mode = w.same_mode;
+      same_asked = w.same_asked;
+      question_is = w.question_is;
+      assumed_is = w.assumed_is;
+      spent =
+          w.spent;
+      may = w.may;
+    }
 spent_after input (line.Learn number clause ∷ b) (r, rs) q assume e = let w = spent_after input b rs q assume e in
-    record { early = w.early; same_mode = w.same_mode; same_asked = w.same_asked; question_is = w.question_is; assumed_is = w.assumed_is; spent = w.spent; may = w.may }
+    record {
+      early = w.early;
+      same_mode = w.same_mode;
+      same_asked = w.same_asked;
+      question_is = w.question_is;
+      assumed_is = w.assumed_is;
+      spent =
+          w.spent;
+      may = w.may;
+    }
 spent_after input (line.Core number kept dropped ∷ b) (r, rs) q assume e = let w = spent_after input b rs q assume e in
-    record { early = w.early; same_mode = w.same_mode; same_asked = w.same_asked; question_is = w.question_is; assumed_is = w.assumed_is; spent = w.spent; may = w.may }
+    record {
+      early = w.early;
+      same_mode = w.same_mode;
+      same_asked = w.same_asked;
+      question_is = w.question_is;
+      assumed_is = w.assumed_is;
+      spent =
+          w.spent;
+      may = w.may;
+    }
 spent_after input (line.Done how.Spent None ∷ b) (r, rs) q assume (inl (eq, ea, eh)) =
     record { early = b; same_mode = refl; same_asked = refl; question_is = eq; assumed_is = ea; spent = r.own; may = try_right input b rs r.order }
 spent_after input (line.Done how.Spent (Some n) ∷ b) (r, rs) q assume (inl (eq, ea, eh)) = absurd r.own
 spent_after input (line.Done how.Model core ∷ b) (r, rs) q assume (inl (eq, ea, eh)) = absurd (cc)
 spent_after input (line.Done how.Refuted core ∷ b) (r, rs) q assume (inl (eq, ea, eh)) = absurd (cc)
 spent_after input (line.Done h core ∷ b) (r, rs) q assume (inr e) = let w = spent_after input b rs q assume e in
-    record { early = w.early; same_mode = w.same_mode; same_asked = w.same_asked; question_is = w.question_is; assumed_is = w.assumed_is; spent = w.spent; may = w.may }
+    record {
+      early = w.early;
+      same_mode = w.same_mode;
+      same_asked = w.same_asked;
+      question_is = w.question_is;
+      assumed_is = w.assumed_is;
+      spent =
+          w.spent;
+      may = w.may;
+    }
 spent_after input [] r q assume e = absurd e
 spent_after input (line.Head _ _ _ _ _ _ ∷ b) (r, rs) q assume e = absurd r.own
 spent_after input (line.Cq _ _ _ ∷ b) (r, rs) q assume e = absurd r.own
@@ -106,7 +145,8 @@ module _ (input : Input) (b : List Line) (q : Question) (assume : List ℕ) (w :
 
   may_assume : MayAssume input.kb (asked b) q assume
   may_assume = subst (λ a. MayAssume input.kb a q assume) w.same_asked
-      (subst (λ x. MayAssume input.kb (asked w.early) x assume) w.question_is (subst (MayAssume input.kb (asked w.early) (question_of w.early)) w.assumed_is w.may))
+      (subst (λ x. MayAssume input.kb (asked w.early) x assume) w.question_is
+      (subst (MayAssume input.kb (asked w.early) (question_of w.early)) w.assumed_is w.may))
 
   not_refuted : ¬ Refutes (Live input.kb w.early) (Contains assume)
   not_refuted h = w.spent.not_refuted (subst (λ a. Refutes (Live input.kb w.early) (Contains a)) (sym w.assumed_is) h)
@@ -116,13 +156,19 @@ absent_refuted : (S : List ℕ → Type 0) (i : ℕ) → S (present i ∷ []) �
 absent_refuted S i s = (
   absent i ∷ [],
   (inl (Contains-head (absent i) []), tt),
-  inl (present i ∷ [], s, λ k m. subst (λ z. Contains (absent i ∷ []) (opposite_of z)) (only_one (present i) k m) (subst (Contains (absent i ∷ [])) (sym (opposite_of-present i)) (Contains-head (absent i) []))),
+  inl (
+    present i ∷ [],
+    s,
+    λ k m. subst (λ z. Contains (absent i ∷ []) (opposite_of z)) (only_one (present i) k m)
+        (subst (Contains (absent i ∷ [])) (sym (opposite_of-present i)) (Contains-head (absent i) [])),
+  ),
 )
 
 -- ---- easy tries in mode `all`
 
 -- a brave try is easy where its cause is consistent
-pub brave_easy : (kb : Knowledge) (cause : List ℕ) → ((i : ℕ) → Contains cause i → i < length kb.facts) → AreConsistent kb (Contains cause) → IsEasy kb mode.All question.Brave (map present cause)
+pub brave_easy : (kb : Knowledge) (cause : List ℕ) → ((i : ℕ) → Contains cause i → i < length kb.facts) → AreConsistent kb (Contains cause)
+    → IsEasy kb mode.All question.Brave (map present cause)
 brave_easy kb cause known consistent = (cause, refl, direct_in_all kb cause known consistent)
 
 -- and an IAR try where its fact is in a conflict
@@ -138,7 +184,8 @@ iar_easy kb i j c = (
 
 -- ---- the open answer in mode `all`
 
-module _ (input : Input) (b : List Line) (right : IsRightAnswer input b) (in_all : mode_of b ≡ mode.All) (lists : AreConsistentLists input.kb (asked b).causes) where
+module _ (input : Input) (b : List Line) (right : IsRightAnswer input b) (in_all : mode_of b ≡ mode.All)
+    (lists : AreConsistentLists input.kb (asked b).causes) where
   is_fact : (cause : List ℕ) → Contains (asked b).causes cause → (i : ℕ) → Contains cause i → i < length input.kb.facts
   is_fact cause m i k = All-contains (λ i. i < length input.kb.facts) cause i (lists cause m).0 k
 
@@ -162,7 +209,8 @@ module _ (input : Input) (b : List Line) (right : IsRightAnswer input b) (in_all
       go : (cause : List ℕ) × (j : ℕ) × Contains (asked b).causes cause × Contains cause j × (absent i ∷ [] ≡ absent j ∷ []) → ⊥
       go (cause, j, m, k, same) =
           let in_cause : Contains cause i = subst (Contains cause) (sym (absent_same i j same)) k in
-          let alone : AreConsistent input.kb (Only i) = AreConsistent-mono input.kb (Only i) (Contains cause) (λ l d. subst (Contains cause) (sym d) in_cause) (lists cause m).1 in
+          let alone : AreConsistent input.kb (Only i) = AreConsistent-mono input.kb (Only i) (Contains cause) (λ l d. subst (Contains cause) (sym d) in_cause)
+          (lists cause m).1 in
           let base : IsBaseClause input.kb mode.All (present i ∷ []) = base_present input.kb mode.All i (is_fact cause m i in_cause) alone rival in
           let live : Live input.kb w.early (present i ∷ []) = inl (subst (λ x. IsBaseClause input.kb x (present i ∷ [])) (sym (w.same_mode ∙ in_all)) base) in
           not_refuted input b question.Iar (absent i ∷ []) w (absent_refuted (Live input.kb w.early) i live)
@@ -201,7 +249,8 @@ module _ (input : Input) (b : List Line) (right : IsRightAnswer input b) (in_all
   iar_said cores verdict.No v = tt
   iar_said cores verdict.Undecided v = absurd (iar_decided cores v.1)
 
-  ar_said : (cores : List ℕ) (brave ar iar : Verdict) → IsVerdict input.kb b cores question.Brave brave → IsVerdict input.kb b cores question.Ar ar → IsVerdict input.kb b cores question.Iar iar
+  ar_said : (cores : List ℕ) (brave ar iar : Verdict) → IsVerdict input.kb b cores question.Brave brave → IsVerdict input.kb b cores question.Ar ar
+      → IsVerdict input.kb b cores question.Iar iar
       → ((c d : List ℕ) → Contains (asked b).causes c → Contains (asked b).causes d → c ≡ d) → IsDecided ar
   ar_said cores brave verdict.Yes iar bv av iv single = tt
   ar_said cores brave verdict.No iar bv av iv single = tt
@@ -209,7 +258,8 @@ module _ (input : Input) (b : List Line) (right : IsRightAnswer input b) (in_all
 
 -- over all repairs an open answer leaves no brave and no IAR verdict open, and none of a candidate with one cause
 pub open_all_decides : (input : Input) (b : List Line) → IsRightAnswer input b → mode_of b ≡ mode.All → AreConsistentLists input.kb (asked b).causes
-    → (cores : List ℕ) (brave ar iar : Verdict) → IsVerdict input.kb b cores question.Brave brave → IsVerdict input.kb b cores question.Ar ar → IsVerdict input.kb b cores question.Iar iar
+    → (cores : List ℕ) (brave ar iar : Verdict) → IsVerdict input.kb b cores question.Brave brave → IsVerdict input.kb b cores question.Ar ar
+    → IsVerdict input.kb b cores question.Iar iar
     → IsDecided brave × IsDecided iar × (((c d : List ℕ) → Contains (asked b).causes c → Contains (asked b).causes d → c ≡ d) → IsDecided ar)
 open_all_decides input b r a lists cores brave ar iar bv av iv = (
   brave_said input b r a lists cores brave bv,
@@ -234,12 +284,15 @@ line_decided kb names q before a (line.Answer brave ar iar cores texts tuple) w 
     let in_all : mode_of w.earlier ≡ mode.All = w.same_mode ∙ a in
     let same : query_of input w.earlier ≡ q = one_query kb names q w.earlier w.right (λ e. in_answer (place_of w.earlier) w.at e) in
     let u = h.1.in_place.causes_are in
-    let said = open_all_decides input w.earlier h.0 in_all (consistent_lists kb (query_of input w.earlier) (asked w.earlier).tuple (asked w.earlier).causes u) cores brave ar iar w.own.brave_is w.own.ar_is w.own.iar_is in (
+    let said = open_all_decides input w.earlier h.0 in_all (consistent_lists kb (query_of input w.earlier) (asked w.earlier).tuple (asked w.earlier).causes u)
+    cores brave ar iar w.own.brave_is w.own.ar_is w.own.iar_is in (
       said.0,
       said.1,
       λ causes v single. said.2 (λ c d m n.
-          let v' : AreCauses kb (query_of input w.earlier) (asked w.earlier).tuple causes = subst (λ p. AreCauses kb p (asked w.earlier).tuple causes) (sym same) (subst (λ t. AreCauses kb q t causes) w.own.same_tuple v) in
-          let there : (c : List ℕ) → Contains (asked w.earlier).causes c → Contains causes c = same_causes kb (query_of input w.earlier) (asked w.earlier).tuple (asked w.earlier).causes causes u v' in
+          let v' : AreCauses kb (query_of input w.earlier) (asked w.earlier).tuple causes =
+          subst (λ p. AreCauses kb p (asked w.earlier).tuple causes) (sym same) (subst (λ t. AreCauses kb q t causes) w.own.same_tuple v) in
+          let there : (c : List ℕ) → Contains (asked w.earlier).causes c
+          → Contains causes c = same_causes kb (query_of input w.earlier) (asked w.earlier).tuple (asked w.earlier).causes causes u v' in
           single c d (there c m) (there d n)),
     )
 line_decided kb names q before a (line.Head axioms budget facts keep repairs version) w = tt
@@ -254,6 +307,8 @@ line_decided kb names q before a (line.Forget clauses) w = tt
 line_decided kb names q before a (line.End answers brave ar iar undecided) w = tt
 
 -- in mode `all` an accepted report leaves no brave and no IAR verdict open, and none of a candidate with one cause
-pub all_mode_decides : (kb : Knowledge) (names : List (List ℕ)) (q : Query) (lines : List Line) → Accepts kb names q lines → mode_told lines ≡ mode.All → All (IsDecidedWithoutPriority kb q) lines
+pub all_mode_decides : (kb : Knowledge) (names : List (List ℕ)) (q : Query) (lines : List Line) → Accepts kb names q lines → mode_told lines ≡ mode.All
+    → All (IsDecidedWithoutPriority kb q) lines
 all_mode_decides kb names q lines w a =
-    All-of (IsDecidedWithoutPriority kb q) lines (λ l m. line_decided kb names q (reverse lines) a l (answers_at (report_on kb names q) (reverse lines) w.right l (Contains-reverse lines l m)))
+    All-of (IsDecidedWithoutPriority kb q) lines (λ l m. line_decided kb names q (reverse lines) a l
+    (answers_at (report_on kb names q) (reverse lines) w.right l (Contains-reverse lines l m)))

@@ -31,7 +31,8 @@ use Rattle.report_laws.proofs.ScopeLemmas.{second, components_scope}
 
 -- ---- facts in no conflict
 
-pub free_units : (kb : Knowledge) (mode : Repairs) (i : ℕ) → i < length kb.facts → ¬ IsInConflict kb i → (AreConsistent kb (Only i) → IsBaseClause kb mode (present i ∷ [])) × (IsSelfInconsistent kb i → IsBaseClause kb mode (absent i ∷ []))
+pub free_units : (kb : Knowledge) (mode : Repairs) (i : ℕ) → i < length kb.facts → ¬ IsInConflict kb i
+    → (AreConsistent kb (Only i) → IsBaseClause kb mode (present i ∷ [])) × (IsSelfInconsistent kb i → IsBaseClause kb mode (absent i ∷ []))
 free_units kb mode i l none = ((λ c. base_present kb mode i l c (λ j w. none (j, w))), base_absent kb mode i l)
 
 -- a fact is in a conflict or isn't
@@ -43,25 +44,31 @@ in_conflict_or_not kb i = let w = with_property (Conflict kb i) (conflict_or_not
     go (x ∷ numbers) exact = inl (x, ((exact x).0 (Contains-head x numbers)).1)
 
 -- a unit clause decides its variable
-pub unit_decides : (S : List ℕ → Type 0) (x l : ℕ) → S (x ∷ []) → variable_of x ≡ variable_of l → ¬ Reaches S Nothing l → ¬ Reaches S Nothing (opposite_of l) → ⊥
-unit_decides S x l s e shut opposite = elim (same_variable x l e) [ inl h ↦ shut (subst (Reaches S Nothing) h reached) | inr h ↦ opposite (subst (Reaches S Nothing) h reached) ]
+pub unit_decides : (S : List ℕ → Type 0) (x l : ℕ) → S (x ∷ []) → variable_of x ≡ variable_of l → ¬ Reaches S Nothing l → ¬ Reaches S Nothing (opposite_of l)
+    → ⊥
+unit_decides S x l s e shut opposite = elim (same_variable x l e)
+    [ inl h ↦ shut (subst (Reaches S Nothing) h reached) | inr h ↦ opposite (subst (Reaches S Nothing) h reached) ]
   where
     reached : Reaches S Nothing x
     reached = Reaches-forced S Nothing (x ∷ []) x s (record { member = Contains-head x []; others = λ k m d. absurd (d (sym (only_one x k m))) })
 
 -- a literal of a fact that is open under clauses that have the fact's unit base clauses is of a fact in a conflict
 pub open_conflicts : (kb : Knowledge) (mode : Repairs) (S : List ℕ → Type 0) (l : ℕ) → variable_of l < length kb.facts
-    → ((x : ℕ) → variable_of x ≡ variable_of l → IsBaseClause kb mode (x ∷ []) → S (x ∷ [])) → ¬ Reaches S Nothing l → ¬ Reaches S Nothing (opposite_of l) → IsInConflict kb (variable_of l)
+    → ((x : ℕ) → variable_of x ≡ variable_of l → IsBaseClause kb mode (x ∷ []) → S (x ∷ [])) → ¬ Reaches S Nothing l → ¬ Reaches S Nothing (opposite_of l)
+    → IsInConflict kb (variable_of l)
 open_conflicts kb mode S l below units shut opposite = elim (in_conflict_or_not kb (variable_of l)) [
   | inl c ↦ c
   | inr none ↦ absurd (elim (own_or_not kb (variable_of l)) [
-    | inl own ↦ unit_decides S (absent (variable_of l)) l (units (absent (variable_of l)) (variable_of-absent (variable_of l)) (base_absent kb mode (variable_of l) below own.1)) (variable_of-absent (variable_of l)) shut opposite
+    | inl own ↦ unit_decides S (absent (variable_of l)) l (units (absent (variable_of l)) (variable_of-absent (variable_of l))
+        (base_absent kb mode (variable_of l) below own.1)) (variable_of-absent (variable_of l)) shut opposite
     | inr free ↦ unit_decides S (present (variable_of l)) l (units (present (variable_of l)) (variable_of-present (variable_of l))
-        (base_present kb mode (variable_of l) below (Consistent-stable kb.axioms (facts_in kb (Only (variable_of l))) (λ s. free (below, s))) (λ j w. none (j, w)))) (variable_of-present (variable_of l)) shut opposite
+        (base_present kb mode (variable_of l) below (Consistent-stable kb.axioms (facts_in kb (Only (variable_of l))) (λ s. free (below, s)))
+        (λ j w. none (j, w)))) (variable_of-present (variable_of l)) shut opposite
   ])
 ]
 
-pub may_be_learned : (kb : Knowledge) (mode : Repairs) (a : Asked) (facts clause : List ℕ) (S : List ℕ → Type 0) → ((cause : List ℕ) → Contains a.causes cause → AreFacts kb cause) → AreComponents kb a.causes facts
+pub may_be_learned : (kb : Knowledge) (mode : Repairs) (a : Asked) (facts clause : List ℕ) (S : List ℕ → Type 0)
+    → ((cause : List ℕ) → Contains a.causes cause → AreFacts kb cause) → AreComponents kb a.causes facts
     → IsInside (has (scope_of kb a facts)) clause → ¬ Contains clause (present (selector_of kb a.candidate))
     → ((i : ℕ) → Contains facts i → HasUnits kb mode S i) → All (IsUndecided S) clause → All (MayLearn kb a) clause
 may_be_learned kb mode a facts clause S causes w inside absent_only units opened = All-of (MayLearn kb a) clause each

@@ -41,7 +41,8 @@ module _ (input : Input) where
   }
 
   -- a line of the open answer
-  goes_on : (x : Line) (b : List Line) → is_open (x ∷ b) ≡ true → IsRightAnswer input (x ∷ b) → LearnedHold input (start_of (x ∷ b)) × CoresHold input (start_of (x ∷ b)) → IsHeld (x ∷ b)
+  goes_on : (x : Line) (b : List Line) → is_open (x ∷ b) ≡ true → IsRightAnswer input (x ∷ b) → LearnedHold input (start_of (x ∷ b))
+      × CoresHold input (start_of (x ∷ b)) → IsHeld (x ∷ b)
   goes_on x b o r w = record { closed = λ f. absurd (true≢false (sym o ∙ f)); opened = λ e. (r, w.0, w.1) }
 
   -- without its number
@@ -58,7 +59,8 @@ module _ (input : Input) where
     needed = own.needed;
   }
 
-  core_unnumbered : (b : List Line) (number : ℕ) (kept dropped : List ℕ) → CoreIsRight input b number kept dropped → CoreIsRight input b (count_cores b) kept dropped
+  core_unnumbered : (b : List Line) (number : ℕ) (kept dropped : List ℕ) → CoreIsRight input b number kept dropped
+      → CoreIsRight input b (count_cores b) kept dropped
   core_unnumbered b number kept dropped own = record {
     counts = refl;
     kept_ascending = own.kept_ascending;
@@ -70,12 +72,16 @@ module _ (input : Input) where
 
   held : (before : List Line) → AreRight input before → IsHeld before
   held [] r = record {
-    closed = λ o. ((λ R v c a clause (n, m). absurd (Contains-nil (record { number = n; clause = clause }) m)), (λ n kept dropped m. absurd (Contains-nil (line.Core n kept dropped) m)));
+    closed = λ o. (
+      (λ R v c a clause (n, m). absurd (Contains-nil (record { number = n; clause = clause }) m)),
+      (λ n kept dropped m. absurd (Contains-nil (line.Core n kept dropped) m)),
+    );
     opened = λ o. absurd (true≢false (sym o));
   }
   held (line.Head axioms budget facts keep repairs version ∷ b) (r, rs) = record {
     closed = λ o. (
-      (λ R v c a clause (n, m). absurd (Contains-nil (record { number = n; clause = clause }) (subst (λ x. Contains (learned (length input.kb.facts) x) (record { number = n; clause = clause })) (starts_empty b r.order) m))),
+      (λ R v c a clause (n, m). absurd (Contains-nil (record { number = n; clause = clause })
+          (subst (λ x. Contains (learned (length input.kb.facts) x) (record { number = n; clause = clause })) (starts_empty b r.order) m))),
       (λ n kept dropped m. elim (Contains-cases _ b _ m) [
         | inl e ↦ absurd (cc)
         | inr h ↦ absurd (Contains-nil (line.Core n kept dropped) (subst (λ x. Contains x (line.Core n kept dropped)) (starts_empty b r.order) h))
@@ -83,15 +89,21 @@ module _ (input : Input) where
     );
     opened = λ o. absurd (true≢false (sym o));
   }
-  held (line.Cq o query step ∷ b) (r, rs) = stays (line.Cq o query step) b refl refl refl (λ c m. m) ((held b rs).closed (block_closed input.form input.kb.axioms (place_of b) o r.order))
-  held (line.Conflict facts rule member ∷ b) (r, rs) = stays (line.Conflict facts rule member) b refl refl refl (λ c m. m) ((held b rs).closed (over_closed input.form input.kb.axioms (place_of b) r.order))
-  held (line.End answers brave ar iar undecided ∷ b) (r, rs) = stays (line.End answers brave ar iar undecided) b refl refl refl (λ c m. m) ((held b rs).closed (between_closed input.form input.kb.axioms (place_of b) r.order))
+  held (line.Cq o query step ∷ b) (r, rs) = stays (line.Cq o query step) b refl refl refl (λ c m. m)
+      ((held b rs).closed (block_closed input.form input.kb.axioms (place_of b) o r.order))
+  held (line.Conflict facts rule member ∷ b) (r, rs) = stays (line.Conflict facts rule member) b refl refl refl (λ c m. m)
+      ((held b rs).closed (over_closed input.form input.kb.axioms (place_of b) r.order))
+  held (line.End answers brave ar iar undecided ∷ b) (r, rs) =
+      stays (line.End answers brave ar iar undecided) b refl refl refl (λ c m. m)
+      ((held b rs).closed (between_closed input.form input.kb.axioms (place_of b) r.order))
   held (line.Forget clauses ∷ b) (r, rs) = stays (line.Forget clauses) b refl refl refl
       (λ c (n, m). (n, (Contains-filter (λ x. not (has clauses x.number)) (learned (length input.kb.facts) b) (record { number = n; clause = c }) m).0))
       ((held b rs).closed (between_closed input.form input.kb.axioms (place_of b) r.order))
-  held (line.Ask candidate tuple causes members ∷ b) (r, rs) = goes_on (line.Ask candidate tuple causes members) b refl tt ((held b rs).closed (ask_closed input.form input.kb.axioms (place_of b) r.order))
+  held (line.Ask candidate tuple causes members ∷ b) (r, rs) =
+      goes_on (line.Ask candidate tuple causes members) b refl tt ((held b rs).closed (ask_closed input.form input.kb.axioms (place_of b) r.order))
   held (line.Try question assume ∷ b) (r, rs) =
-      let w = (held b rs).opened (ap is_answering r.order) in goes_on (line.Try question assume) b refl (record { order = r.order; own = r.own }, w.0) (w.1, w.2)
+      let w = (held b rs).opened (ap is_answering r.order) in goes_on (line.Try question assume) b refl (record { order = r.order; own = r.own }, w.0)
+      (w.1, w.2)
   held (line.Learn number clause ∷ b) (r, rs) =
       let w = (held b rs).opened (ap is_answering r.order) in
       goes_on (line.Learn number clause) b refl (record { order = r.order; own = learn_unnumbered b number clause r.own }, w.0) (w.1, w.2)
@@ -99,11 +111,15 @@ module _ (input : Input) where
       let w = (held b rs).opened (ap is_answering r.order) in
       goes_on (line.Core number kept dropped) b refl (record { order = r.order; own = core_unnumbered b number kept dropped r.own }, w.0) (w.1, w.2)
   held (line.Done how core ∷ b) (r, rs) =
-      let w = (held b rs).opened (try_open (place_of b) r.order) in goes_on (line.Done how core) b refl (record { order = r.order; own = r.own }, w.0) (w.1, w.2)
+      let w = (held b rs).opened (try_open (place_of b) r.order) in
+      goes_on (line.Done how core) b refl (record { order = r.order; own = r.own }, w.0) (w.1, w.2)
   held (line.Answer brave ar iar cores names tuple ∷ b) (r, rs) =
       let w = (held b rs).opened (ap is_answering r.order) in
       record {
-        closed = λ o. (answer_keeps input b w.0 w.1 brave ar iar cores names tuple, answer_cores input b (open_cores input b w.0 w.2) brave ar iar cores names tuple);
+        closed = λ o. (
+          answer_keeps input b w.0 w.1 brave ar iar cores names tuple,
+          answer_cores input b (open_cores input b w.0 w.2) brave ar iar cores names tuple,
+        );
         opened = λ o. absurd (true≢false (sym o));
       }
 
@@ -116,7 +132,8 @@ module _ (input : Input) where
   right_hold before r f = (held before r).closed f
 
   -- after right lines each live clause is true of every chosen repair
-  pub live_true : (before : List Line) → AreRight input before → (R : ℕ → Bool) → IsChosen input.kb (mode_of before) R → (v : ℕ → Bool) → Reads input before R v → SatisfiesAll v (Live input.kb before)
+  pub live_true : (before : List Line) → AreRight input before → (R : ℕ → Bool) → IsChosen input.kb (mode_of before) R → (v : ℕ → Bool)
+      → Reads input before R v → SatisfiesAll v (Live input.kb before)
   live_true before r R c v w = elim (cases_Bool (is_open before)) [
     | inl o ↦ (let h = opens_rightly before r o in open_true input before h.0 h.1.in_place h.1.learned R v c w)
     | inr f ↦ between f ((right_hold before r f).0 R v c w.facts)

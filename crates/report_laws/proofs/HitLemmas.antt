@@ -1,5 +1,6 @@
 -- The conflicts and the candidates, found out from what the members of closed blocks match.
-use Rattle.std.proofs.Common.{◌≡◌, ℕ, suc, ◌<◌, ◌≤◌, ◌⊎◌, ◌↔◌, inl, inr, List, [], ◌∷◌, ◌++◌, length, map, filter, filter_map, All, AllPairs, Any, Contains, Bool, true, false, true≢false, not, ◌&&◌, ◌||◌, cond, Option, Some, None, slice_get, refl, sym, subst, ap, ◌∙◌, arith}
+use Rattle.std.proofs.Common.{◌≡◌, ℕ, suc, ◌<◌, ◌≤◌, ◌⊎◌, ◌↔◌, inl, inr, List, [], ◌∷◌, ◌++◌, length, map, filter, filter_map, All, AllPairs, Any, Contains}
+use Rattle.std.proofs.Common.{Bool, true, false, true≢false, not, ◌&&◌, ◌||◌, cond, Option, Some, None, slice_get, refl, sym, subst, ap, ◌∙◌, arith}
 use Rattle.std.specs.List.{list_any, cons_option}
 use Rattle.std.specs.Str.{bytes_eq}
 use Rattle.std.specs.Ordering.{nat_cmp, ordering_then}
@@ -44,17 +45,21 @@ use Rattle.report_laws.specs.BlockLaws.{IsPast}
 use Rattle.report_rules.specs.Accepted.{AreRight}
 use Rattle.report_laws.specs.Standing.{Block, with_query, blocks_of, members_at}
 use Rattle.report_laws.specs.AtStanding.{Candidate, AreCandidatesOf}
-use Rattle.report_laws.specs.HitLaws.{OverAndClosed, negative_members, IsHit, NegativeBlocksStand, ForbiddenAreHits, AreInOrder, owns_of, pairs_of, ForbiddenTellConflicts, Group, AreSupports, is_free, has_all, is_least, causes_of, candidates_of, SupportsTellCandidates, HitsAreSupports, LawsOfHits}
+use Rattle.report_laws.specs.HitLaws.{OverAndClosed, negative_members, IsHit, NegativeBlocksStand, ForbiddenAreHits, AreInOrder, owns_of, pairs_of}
+use Rattle.report_laws.specs.HitLaws.{ForbiddenTellConflicts, Group, AreSupports, is_free, has_all, is_least, causes_of, candidates_of}
+use Rattle.report_laws.specs.HitLaws.{SupportsTellCandidates, HitsAreSupports, LawsOfHits}
 use Rattle.report_laws.proofs.BlocksDone.{last_stands, disjointness_blocks_are_closures}
 use Rattle.report_laws.proofs.ClosureLemmas.{negative_block_is_closure}
 use Rattle.report_laws.proofs.ListLemmas.{Contains-filter, filter-Contains, AllPairs-head, AllPairs-tail}
 use Rattle.report_laws.proofs.StandingLemmas.{same_or_not, blocks_listed}
-use Rattle.report_laws.proofs.TestLemmas.{Tells, tells_like, tells_both, tells_not, tells_any, tells_all, tells_has, tells_same, Contains-filter_map, filter_map-Contains}
+use Rattle.report_laws.proofs.TestLemmas.{Tells, tells_like, tells_both, tells_not, tells_any, tells_all, tells_has, tells_same, Contains-filter_map}
+use Rattle.report_laws.proofs.TestLemmas.{filter_map-Contains}
 use Rattle.report_laws.proofs.UniqueLists.{less_once}
 
 -- ---- blocks that are over
 
-module _ (input : Input) (b : List Line) (r : AreRight input b) (w : OverAndClosed input b) (i : ℕ) (rule : Axiom) (q : Query) (at : slice_get input.kb.axioms i ≡ Some rule) (is : disjointness_query rule ≡ Some q) where
+module _ (input : Input) (b : List Line) (r : AreRight input b) (w : OverAndClosed input b) (i : ℕ) (rule : Axiom) (q : Query)
+    (at : slice_get input.kb.axioms i ≡ Some rule) (is : disjointness_query rule ≡ Some q) where
   negative : IsNegativeAt input.kb.axioms i
   negative = (rule, q, at, is)
 
@@ -73,7 +78,8 @@ module _ (input : Input) (b : List Line) (r : AreRight input b) (w : OverAndClos
     ]
   ]
 
-  over : (form : Form) → input.form ≡ form → (p : Place) → place_of b ≡ p → AreBlocksOver form input.kb.axioms p → IsClosure input.kb.axioms q (block_of (origin.Negative i) b)
+  over : (form : Form) → input.form ≡ form → (p : Place) → place_of b ≡ p → AreBlocksOver form input.kb.axioms p
+      → IsClosure input.kb.axioms q (block_of (origin.Negative i) b)
   over form f InConflicts e h = past (subst (λ (p : Place). IsPast input.form p i) (sym e) tt)
   over OneQuery f (InBlock (origin.Negative j)) e h = in_block j e (λ l. h i l negative)
   over Session f (InBlock (origin.Negative j)) e h = in_block j e (λ l. h i l negative)
@@ -90,17 +96,22 @@ stand input b r w i rule q at is = over input b r w i rule q at is input.form re
 -- ---- the members of the blocks
 
 -- a block that has a member is that of a disjointness
-member_negative : (input : Input) (b : List Line) → AreRight input b → (i : ℕ) (m : Query) → Contains (block_of (origin.Negative i) b) m → IsNegativeAt input.kb.axioms i
+member_negative : (input : Input) (b : List Line) → AreRight input b → (i : ℕ) (m : Query) → Contains (block_of (origin.Negative i) b) m
+    → IsNegativeAt input.kb.axioms i
 member_negative input [] r i m k = absurd (Contains-nil m k)
 member_negative input (line.Cq o q step ∷ b) (r, rs) i m k = elim (same_or_not (origin.Negative i) o) [
-  | inl w ↦ joined (sym w.1) (block_of (origin.Negative i) b) refl step (subst (λ (p : Origin). MayJoin input b p (block_of p b) q step) (sym w.1) r.own) (λ m' k'. member_negative input b rs i m' k')
+  | inl w ↦ joined (sym w.1) (block_of (origin.Negative i) b) refl step (subst (λ (p : Origin). MayJoin input b p (block_of p b) q step) (sym w.1) r.own)
+      (λ m' k'. member_negative input b rs i m' k')
   | inr w ↦ member_negative input b rs i m (rw w.0 at k)
 ]
   where
-    joined : o ≡ origin.Negative i → (members : List Query) → block_of (origin.Negative i) b ≡ members → (step : Option (ℕ × Move)) → MayJoin input b (origin.Negative i) (block_of (origin.Negative i) b) q step → ((m : Query) → Contains (block_of (origin.Negative i) b) m → IsNegativeAt input.kb.axioms i) → IsNegativeAt input.kb.axioms i
+    joined : o ≡ origin.Negative i → (members : List Query) → block_of (origin.Negative i) b ≡ members → (step : Option (ℕ × Move))
+        → MayJoin input b (origin.Negative i) (block_of (origin.Negative i) b) q step
+        → ((m : Query) → Contains (block_of (origin.Negative i) b) m → IsNegativeAt input.kb.axioms i) → IsNegativeAt input.kb.axioms i
     joined e members same step j again = go members same step (subst (λ (ms : List Query). MayJoin input b (origin.Negative i) ms q step) same j)
       where
-        go : (members : List Query) → block_of (origin.Negative i) b ≡ members → (step : Option (ℕ × Move)) → MayJoin input b (origin.Negative i) members q step → IsNegativeAt input.kb.axioms i
+        go : (members : List Query) → block_of (origin.Negative i) b ≡ members → (step : Option (ℕ × Move))
+            → MayJoin input b (origin.Negative i) members q step → IsNegativeAt input.kb.axioms i
         go [] same None (rule, at, is) = (rule, q, at, is)
         go [] same (Some s) j = absurd j
         go (first ∷ others) same s j = again first (subst (λ (ms : List Query). Contains ms first) (sym same) (Contains-head first others))
@@ -121,8 +132,10 @@ Apart [] = Unit {0}
 Apart (b ∷ blocks) = ((c : Block) → Contains blocks c → b.origin ≡ c.origin → ⊥) × Apart blocks
 
 -- each block of one query more has the query's origin, or that of a block before
-origin_with : (blocks : List Block) (o : Origin) (q : Query) (c : Block) → Contains (with_query blocks o q) c → (o ≡ c.origin) ⊎ ((d : Block) × Contains blocks d × (d.origin ≡ c.origin))
-origin_with [] o q c m = elim (Contains-cases (record { origin = o; members = q ∷ [] }) [] c m) [ inl e ↦ inl (ap (λ (x : Block). x.origin) e) | inr n ↦ absurd (Contains-nil c n) ]
+origin_with : (blocks : List Block) (o : Origin) (q : Query) (c : Block) → Contains (with_query blocks o q) c → (o ≡ c.origin)
+    ⊎ ((d : Block) × Contains blocks d × (d.origin ≡ c.origin))
+origin_with [] o q c m = elim (Contains-cases (record { origin = o; members = q ∷ [] }) [] c m)
+    [ inl e ↦ inl (ap (λ (x : Block). x.origin) e) | inr n ↦ absurd (Contains-nil c n) ]
 origin_with (b ∷ blocks) o q c m = by (same_origin o b.origin) m (λ k. origin_with blocks o q c k)
   where
     by : (t : Bool) → Contains (cond t (record { origin = b.origin; members = b.members ++ q ∷ [] } ∷ blocks) (b ∷ with_query blocks o q)) c
@@ -141,7 +154,8 @@ apart_with : (blocks : List Block) (o : Origin) (q : Query) → Apart blocks →
 apart_with [] o q a = ((λ c m e. Contains-nil c m), tt)
 apart_with (b ∷ blocks) o q (h, a) = by (same_or_not o b.origin) (apart_with blocks o q a)
   where
-    by : ((same_origin o b.origin ≡ true) × (o ≡ b.origin)) ⊎ ((same_origin o b.origin ≡ false) × (o ≡ b.origin → ⊥)) → Apart (with_query blocks o q) → Apart (with_query (b ∷ blocks) o q)
+    by : ((same_origin o b.origin ≡ true) × (o ≡ b.origin)) ⊎ ((same_origin o b.origin ≡ false) × (o ≡ b.origin → ⊥)) → Apart (with_query blocks o q)
+        → Apart (with_query (b ∷ blocks) o q)
     by (inl w) again = rw w.0 (h, a)
     by (inr w) again = rw w.0 ((λ c m e. elim (origin_with blocks o q c m) [ inl f ↦ w.1 (f ∙ sym e) | inr v ↦ h v.0 v.1 (e ∙ sym v.2) ]), again)
 
@@ -172,7 +186,8 @@ at_own : (blocks : List Block) → Apart blocks → (c : Block) → Contains blo
 at_own [] a c m = absurd (Contains-nil c m)
 at_own (b ∷ blocks) (h, a) c m = by (same_or_not c.origin b.origin) (Contains-cases b blocks c m) (λ k. at_own blocks a c k)
   where
-    by : ((same_origin c.origin b.origin ≡ true) × (c.origin ≡ b.origin)) ⊎ ((same_origin c.origin b.origin ≡ false) × (c.origin ≡ b.origin → ⊥)) → (b ≡ c) ⊎ Contains blocks c
+    by : ((same_origin c.origin b.origin ≡ true) × (c.origin ≡ b.origin)) ⊎ ((same_origin c.origin b.origin ≡ false) × (c.origin ≡ b.origin → ⊥)) → (b ≡ c)
+        ⊎ Contains blocks c
         → (Contains blocks c → members_at blocks c.origin ≡ c.members) → members_at (b ∷ blocks) c.origin ≡ c.members
     by (inl w) (inl e) again = rw w.0 (ap (λ (x : Block). x.members) e)
     by (inl w) (inr k) again = absurd (h c k (sym w.1))
@@ -180,7 +195,8 @@ at_own (b ∷ blocks) (h, a) c m = by (same_or_not c.origin b.origin) (Contains-
     by (inr w) (inr k) again = rw w.0 (again k)
 
 -- a member of an origin's block is in a block of it
-at_block : (blocks : List Block) (o : Origin) (m : Query) → Contains (members_at blocks o) m → (c : Block) × Contains blocks c × (c.origin ≡ o) × Contains c.members m
+at_block : (blocks : List Block) (o : Origin) (m : Query) → Contains (members_at blocks o) m → (c : Block) × Contains blocks c × (c.origin ≡ o)
+    × Contains c.members m
 at_block [] o m k = absurd (Contains-nil m k)
 at_block (b ∷ blocks) o m k = by (same_or_not o b.origin) (λ l. at_block blocks o m l)
   where
@@ -191,17 +207,20 @@ at_block (b ∷ blocks) o m k = by (same_or_not o b.origin) (λ l. at_block bloc
     by (inr w) again = let (c, l, e, n) = again (rw w.0 at k) in (c, Contains-later b blocks c l, e, n)
 
 -- the members of the blocks of disjointnesses
-to_negative : (blocks : List Block) (c : Block) (m : Query) → Contains blocks c → is_query c.origin ≡ false → Contains c.members m → Contains (negative_members blocks) m
+to_negative : (blocks : List Block) (c : Block) (m : Query) → Contains blocks c → is_query c.origin ≡ false → Contains c.members m
+    → Contains (negative_members blocks) m
 to_negative [] c m k e n = absurd (Contains-nil c k)
 to_negative (b ∷ blocks) c m k e n = by (is_query b.origin) refl (Contains-cases b blocks c k) (λ l. to_negative blocks c m l e n)
   where
-    by : (t : Bool) → is_query b.origin ≡ t → (b ≡ c) ⊎ Contains blocks c → (Contains blocks c → Contains (negative_members blocks) m) → Contains (cond t (negative_members blocks) (b.members ++ negative_members blocks)) m
+    by : (t : Bool) → is_query b.origin ≡ t → (b ≡ c) ⊎ Contains blocks c → (Contains blocks c → Contains (negative_members blocks) m)
+        → Contains (cond t (negative_members blocks) (b.members ++ negative_members blocks)) m
     by true f (inl same) again = absurd (true≢false (sym f ∙ (ap (λ (x : Block). is_query x.origin) same ∙ e)))
     by true f (inr l) again = again l
     by false f (inl same) again = Contains-append_left b.members (negative_members blocks) m (subst (λ (x : Block). Contains x.members m) (sym same) n)
     by false f (inr l) again = Contains-append_right b.members (negative_members blocks) m (again l)
 
-of_negative : (blocks : List Block) (m : Query) → Contains (negative_members blocks) m → (c : Block) × Contains blocks c × (is_query c.origin ≡ false) × Contains c.members m
+of_negative : (blocks : List Block) (m : Query) → Contains (negative_members blocks) m → (c : Block) × Contains blocks c × (is_query c.origin ≡ false)
+    × Contains c.members m
 of_negative [] m k = absurd (Contains-nil m k)
 of_negative (b ∷ blocks) m k = by (is_query b.origin) refl k (λ l. of_negative blocks m l)
   where
@@ -225,8 +244,10 @@ module _ (input : Input) (b : List Line) (r : AreRight input b) (w : OverAndClos
   hit_of (rule, q, there, is, (member, inside, image)) =
       let (i, at) = slice_get-Contains input.kb.axioms rule there in
       let m = ((stand input b r w i rule q at is) member).1 inside in
-      let (c, k, e, n) = at_block (blocks_of b) (origin.Negative i) member (subst (λ (ms : List Query). Contains ms member) (sym (blocks_listed b (origin.Negative i))) m) in
-      any_of (λ (p : Query). HasImage input.kb.facts p [] numbers) (negative_members (blocks_of b)) member (to_negative (blocks_of b) c member k (ap is_query e) n) image
+      let (c, k, e, n) = at_block (blocks_of b) (origin.Negative i) member
+      (subst (λ (ms : List Query). Contains ms member) (sym (blocks_listed b (origin.Negative i))) m) in
+      any_of (λ (p : Query). HasImage input.kb.facts p [] numbers) (negative_members (blocks_of b)) member
+      (to_negative (blocks_of b) c member k (ap is_query e) n) image
 
   of_hit : IsHit input.kb.facts (negative_members (blocks_of b)) [] numbers → IsForbidden input.kb numbers
   of_hit h =
@@ -252,13 +273,15 @@ supports kb q members closure tuple numbers = (
 -- ---- conflicts
 
 -- what a function gives of a list in order is in order
-filter_map_pairs : {X Y : Type 0} (R : X → X → Type 0) (Q : Y → Y → Type 0) (f : X → Option Y) → ((x y : X) (a b : Y) → R x y → f x ≡ Some a → f y ≡ Some b → Q a b) → (xs : List X) → AllPairs R xs → AllPairs Q (filter_map f xs)
+filter_map_pairs : {X Y : Type 0} (R : X → X → Type 0) (Q : Y → Y → Type 0) (f : X → Option Y)
+    → ((x y : X) (a b : Y) → R x y → f x ≡ Some a → f y ≡ Some b → Q a b) → (xs : List X) → AllPairs R xs → AllPairs Q (filter_map f xs)
 filter_map_pairs R Q f keeps [] h = λ i j d l m. absurd (omega arith)
 filter_map_pairs {X} {Y} R Q f keeps (x ∷ xs) h = go (f x) refl (filter_map_pairs R Q f keeps xs (AllPairs-tail R x xs h))
   where
     go : (o : Option Y) → f x ≡ o → AllPairs Q (filter_map f xs) → AllPairs Q (cons_option o (filter_map f xs))
     go None e again = again
-    go (Some a) e again = AllPairs-cons Q a (filter_map f xs) (All-of (Q a) (filter_map f xs) (λ b m. let (y, k, g) = Contains-filter_map f xs b m in keeps x y a b (AllPairs-head R x xs h y k) e g)) again
+    go (Some a) e again = AllPairs-cons Q a (filter_map f xs) (All-of (Q a) (filter_map f xs)
+        (λ b m. let (y, k, g) = Contains-filter_map f xs b m in keeps x y a b (AllPairs-head R x xs h y k) e g)) again
 
 single_is : (x : List ℕ) (i : ℕ) → single x ≡ Some i → x ≡ i ∷ []
 single_is [] i e = absurd (cc e)
@@ -299,7 +322,8 @@ neither true b e = absurd (true≢false (sym e))
 neither false true e = absurd (true≢false (sym e))
 neither false false e = (refl, refl)
 
-module _ (kb : Knowledge) (distinct : AreDistinct kb.facts) (images : List (List ℕ)) (order : AreInOrder images) (exact : (numbers : List ℕ) → Contains images numbers ↔ IsForbidden kb numbers) where
+module _ (kb : Knowledge) (distinct : AreDistinct kb.facts) (images : List (List ℕ)) (order : AreInOrder images)
+    (exact : (numbers : List ℕ) → Contains images numbers ↔ IsForbidden kb numbers) where
   forbidden_fact : (numbers : List ℕ) → IsForbidden kb numbers → (i : ℕ) → Contains numbers i → i < length kb.facts
   forbidden_fact numbers (rule, q, there, is, (member, inside, image)) i m = let (f, k, at) = (image.match.2 i).0 m in slice_get_within kb.facts i f at
 
@@ -351,10 +375,13 @@ module _ (kb : Knowledge) (distinct : AreDistinct kb.facts) (images : List (List
     );
     pairs_exact = λ i j. (pair_to i j, pair_from i j);
     owns_ascending = filter_map_pairs (λ (a b : List ℕ). slice_cmp nat_cmp a b ≡ Less) (λ (i j : ℕ). i < j) single
-        (λ x y a b l e f. less_one a b (subst (λ (u : List ℕ). slice_cmp nat_cmp (a ∷ []) u ≡ Less) (single_is y b f) (subst (λ (u : List ℕ). slice_cmp nat_cmp u y ≡ Less) (single_is x a e) l))) images order;
-    pairs_ascending = AllPairs-filter (λ (p r : ℕ × ℕ). (p.0 < r.0) ⊎ ((p.0 ≡ r.0) × (p.1 < r.1))) (λ (p : ℕ × ℕ). not (has (owns_of images) p.0 || has (owns_of images) p.1)) (filter_map couple images)
+        (λ x y a b l e f. less_one a b (subst (λ (u : List ℕ). slice_cmp nat_cmp (a ∷ []) u ≡ Less) (single_is y b f)
+        (subst (λ (u : List ℕ). slice_cmp nat_cmp u y ≡ Less) (single_is x a e) l))) images order;
+    pairs_ascending = AllPairs-filter (λ (p r : ℕ × ℕ). (p.0 < r.0) ⊎ ((p.0 ≡ r.0) × (p.1 < r.1)))
+        (λ (p : ℕ × ℕ). not (has (owns_of images) p.0 || has (owns_of images) p.1)) (filter_map couple images)
         (filter_map_pairs (λ (a b : List ℕ). slice_cmp nat_cmp a b ≡ Less) (λ (p r : ℕ × ℕ). (p.0 < r.0) ⊎ ((p.0 ≡ r.0) × (p.1 < r.1))) couple
-        (λ x y a b l e f. less_two a.0 a.1 b.0 b.1 (subst (λ (u : List ℕ). slice_cmp nat_cmp (a.0 ∷ a.1 ∷ []) u ≡ Less) (couple_is y b f) (subst (λ (u : List ℕ). slice_cmp nat_cmp u y ≡ Less) (couple_is x a e) l))) images order);
+        (λ x y a b l e f. less_two a.0 a.1 b.0 b.1 (subst (λ (u : List ℕ). slice_cmp nat_cmp (a.0 ∷ a.1 ∷ []) u ≡ Less) (couple_is y b f)
+        (subst (λ (u : List ℕ). slice_cmp nat_cmp u y ≡ Less) (couple_is x a e) l))) images order);
   }
 
 pub conflicts : ForbiddenTellConflicts
@@ -369,28 +396,35 @@ tells_implies : {P Q : Type 0} (a b : Bool) → Tells a P → Tells b Q → Tell
 tells_implies true b t u = ((λ e p. u.0 e), (λ h. u.1 (h (t.0 refl))))
 tells_implies false b t u = ((λ e p. absurd (true≢false (sym (t.1 p)))), (λ h. refl))
 
-tells_free : (owns : List ℕ) (pairs : List (ℕ × ℕ)) (c : List ℕ) → Tells (is_free owns pairs c) (All (λ i. ¬ Contains c i) owns × All (λ (p : ℕ × ℕ). ¬ (Contains c p.0 × Contains c p.1)) pairs)
+tells_free : (owns : List ℕ) (pairs : List (ℕ × ℕ)) (c : List ℕ)
+    → Tells (is_free owns pairs c) (All (λ i. ¬ Contains c i) owns × All (λ (p : ℕ × ℕ). ¬ (Contains c p.0 × Contains c p.1)) pairs)
 tells_free owns pairs c = tells_both (not (list_any (has c) owns)) (not (list_any (λ (p : ℕ × ℕ). has c p.0 && has c p.1) pairs))
     (tells_like (not (list_any (has c) owns)) (tells_not (list_any (has c) owns) (tells_any (has c) (Contains c) (tells_has c) owns))
     (λ n. All-of (λ i. ¬ Contains c i) owns (λ i m k. n (i, m, k))) (λ h (i, m, k). All-contains (λ i. ¬ Contains c i) owns i h m k))
     (tells_like (not (list_any (λ (p : ℕ × ℕ). has c p.0 && has c p.1) pairs)) (tells_not (list_any (λ (p : ℕ × ℕ). has c p.0 && has c p.1) pairs)
-    (tells_any (λ (p : ℕ × ℕ). has c p.0 && has c p.1) (λ (p : ℕ × ℕ). Contains c p.0 × Contains c p.1) (λ p. tells_both (has c p.0) (has c p.1) (tells_has c p.0) (tells_has c p.1)) pairs))
-    (λ n. All-of (λ (p : ℕ × ℕ). ¬ (Contains c p.0 × Contains c p.1)) pairs (λ p m k. n (p, m, k))) (λ h (p, m, k). All-contains (λ (p : ℕ × ℕ). ¬ (Contains c p.0 × Contains c p.1)) pairs p h m k))
+    (tells_any (λ (p : ℕ × ℕ). has c p.0 && has c p.1) (λ (p : ℕ × ℕ). Contains c p.0 × Contains c p.1)
+    (λ p. tells_both (has c p.0) (has c p.1) (tells_has c p.0) (tells_has c p.1)) pairs))
+    (λ n. All-of (λ (p : ℕ × ℕ). ¬ (Contains c p.0 × Contains c p.1)) pairs (λ p m k. n (p, m, k)))
+    (λ h (p, m, k). All-contains (λ (p : ℕ × ℕ). ¬ (Contains c p.0 × Contains c p.1)) pairs p h m k))
 
 tells_least : (images : List (List ℕ)) (c : List ℕ) → Tells (is_least images c) ((d : List ℕ) → Contains images d → All (Contains c) d → d ≡ c)
 tells_least images c = tells_all (λ d. not (has_all c d) || bytes_eq d c) (λ (d : List ℕ). All (Contains c) d → d ≡ c)
     (λ d. tells_implies (has_all c d) (bytes_eq d c)
-    (tells_like (has_all c d) (tells_all (has c) (Contains c) (tells_has c) d) (λ h. All-of (Contains c) d h) (λ h i m. All-contains (Contains c) d i h m)) (tells_same d c)) images
+    (tells_like (has_all c d) (tells_all (has c) (Contains c) (tells_has c) d) (λ h. All-of (Contains c) d h) (λ h i m. All-contains (Contains c) d i h m))
+    (tells_same d c)) images
 
-module _ (kb : Knowledge) (distinct : AreDistinct kb.facts) (q : Query) (owns : List ℕ) (pairs : List (ℕ × ℕ)) (exact : AreConflicts kb owns pairs) (groups : List Group) (are : AreSupports kb q groups) where
+module _ (kb : Knowledge) (distinct : AreDistinct kb.facts) (q : Query) (owns : List ℕ) (pairs : List (ℕ × ℕ)) (exact : AreConflicts kb owns pairs)
+    (groups : List Group) (are : AreSupports kb q groups) where
   -- there is one group of a tuple
   one_group : (gs : List Group) → AreInOrder (map (λ (g : Group). g.tuple) gs) → (g h : Group) → Contains gs g → Contains gs h → g.tuple ≡ h.tuple → g ≡ h
   one_group [] o g h m k e = absurd (Contains-nil g m)
-  one_group (x ∷ gs) o g h m k e = by (Contains-cases x gs g m) (Contains-cases x gs h k) (λ l n. one_group gs (AllPairs-tail (λ (a b : List ℕ). slice_cmp nat_cmp a b ≡ Less) x.tuple (map (λ (g : Group). g.tuple) gs) o) g h l n e)
+  one_group (x ∷ gs) o g h m k e = by (Contains-cases x gs g m) (Contains-cases x gs h k)
+      (λ l n. one_group gs (AllPairs-tail (λ (a b : List ℕ). slice_cmp nat_cmp a b ≡ Less) x.tuple (map (λ (g : Group). g.tuple) gs) o) g h l n e)
     where
       above : (y : Group) → Contains gs y → x.tuple ≡ y.tuple → ⊥
       above y m e =
-          let l = AllPairs-head (λ (a b : List ℕ). slice_cmp nat_cmp a b ≡ Less) x.tuple (map (λ (g : Group). g.tuple) gs) o y.tuple (Contains-map (λ (g : Group). g.tuple) gs y m) in
+          let l = AllPairs-head (λ (a b : List ℕ). slice_cmp nat_cmp a b ≡ Less) x.tuple (map (λ (g : Group). g.tuple) gs) o y.tuple
+          (Contains-map (λ (g : Group). g.tuple) gs y m) in
           let l' = subst (λ (t : List ℕ). slice_cmp nat_cmp t y.tuple ≡ Less) e l in
           less_once y.tuple y.tuple l' l'
 
@@ -413,9 +447,11 @@ module _ (kb : Knowledge) (distinct : AreDistinct kb.facts) (q : Query) (owns : 
     abbrev test : List ℕ → Bool
     test numbers = is_free owns pairs numbers && is_least g.images numbers
 
-    tells_test : (c : List ℕ) → Tells (is_free owns pairs c && is_least g.images c) (AreConsistent kb (Contains c) × ((smaller : List ℕ) → IsSupport kb q g.tuple smaller → All (Contains c) smaller → smaller ≡ c))
+    tells_test : (c : List ℕ) → Tells (is_free owns pairs c && is_least g.images c)
+        (AreConsistent kb (Contains c) × ((smaller : List ℕ) → IsSupport kb q g.tuple smaller → All (Contains c) smaller → smaller ≡ c))
     tells_test c = tells_both (is_free owns pairs c) (is_least g.images c)
-        (tells_like (is_free owns pairs c) (tells_free owns pairs c) (consistent_by_lists kb owns pairs exact (Contains c)).1 (consistent_by_lists kb owns pairs exact (Contains c)).0)
+        (tells_like (is_free owns pairs c) (tells_free owns pairs c) (consistent_by_lists kb owns pairs exact (Contains c)).1
+        (consistent_by_lists kb owns pairs exact (Contains c)).0)
         (tells_like (is_least g.images c) (tells_least g.images c) (λ h d s w. h d (image_of g m d s) w) (λ h d k w. h d (support_of g m d k) w))
 
     causes_are : AreCauses kb q g.tuple (causes_of owns pairs g.images)
@@ -424,7 +460,8 @@ module _ (kb : Knowledge) (distinct : AreDistinct kb.facts) (q : Query) (owns : 
       complete = λ c a w.
           let (s, free, least) = (cause_is_support kb q g.tuple distinct c a).0 w in
           filter-Contains (λ numbers. is_free owns pairs numbers && is_least g.images numbers) g.images c (image_of g m c s) ((tells_test c).1 (free, least));
-      ascending = AllPairs-filter (λ (a b : List ℕ). slice_cmp nat_cmp a b ≡ Less) (λ numbers. is_free owns pairs numbers && is_least g.images numbers) g.images (All-contains (λ (g : Group). AreInOrder g.images) groups g are.images m);
+      ascending = AllPairs-filter (λ (a b : List ℕ). slice_cmp nat_cmp a b ≡ Less) (λ numbers. is_free owns pairs numbers && is_least g.images numbers)
+          g.images (All-contains (λ (g : Group). AreInOrder g.images) groups g are.images m);
     }
       where
         each : (c : List ℕ) → Contains (causes_of owns pairs g.images) c → IsAscending c × IsCause kb q g.tuple (Contains c)
@@ -440,8 +477,10 @@ module _ (kb : Knowledge) (distinct : AreDistinct kb.facts) (q : Query) (owns : 
 
   tuples_are : AreCandidates kb q (map (λ (g : Group). g.tuple) groups)
   tuples_are = record {
-    entailed = All-of (FactsEntail kb Every q) (map (λ (g : Group). g.tuple) groups) (λ t m. let (g, k, e) = Contains-map_cases (λ (g : Group). g.tuple) groups t m in subst (FactsEntail kb Every q) e (entailed g k));
-    complete = λ t w. let (numbers, s) = (by_any_support kb q t).0 w in let (g, k, e, l) = (are.exact t numbers).0 s in subst (Contains (map (λ (g : Group). g.tuple) groups)) e (Contains-map (λ (g : Group). g.tuple) groups g k);
+    entailed = All-of (FactsEntail kb Every q) (map (λ (g : Group). g.tuple) groups)
+        (λ t m. let (g, k, e) = Contains-map_cases (λ (g : Group). g.tuple) groups t m in subst (FactsEntail kb Every q) e (entailed g k));
+    complete = λ t w. let (numbers, s) = (by_any_support kb q t).0 w in let (g, k, e, l) = (are.exact t numbers).0 s in
+        subst (Contains (map (λ (g : Group). g.tuple) groups)) e (Contains-map (λ (g : Group). g.tuple) groups g k);
     ascending = are.tuples;
   }
     where

@@ -1,5 +1,6 @@
 -- Each priority is that of some knowledge base: a fact of a concept of its own for each number, and a disjointness for each clash.
-use Rattle.std.proofs.Common.{◌≡◌, ℕ, zero, suc, ◌<◌, ◌+◌, ◌⊎◌, ◌↔◌, inl, inr, List, [], ◌∷◌, ◌++◌, length, map, Contains, Bool, true, false, not, ◌&&◌, ◌||◌, ◌==◌, Some, slice_get, eqb-true, eq-eqb, true≢false, refl, sym, subst, ap, ◌∙◌, arith}
+use Rattle.std.proofs.Common.{◌≡◌, ℕ, zero, suc, ◌<◌, ◌+◌, ◌⊎◌, ◌↔◌, inl, inr, List, [], ◌∷◌, ◌++◌, length, map, Contains, Bool, true, false, not, ◌&&◌, ◌||◌}
+use Rattle.std.proofs.Common.{◌==◌, Some, slice_get, eqb-true, eq-eqb, true≢false, refl, sym, subst, ap, ◌∙◌, arith}
 use Rattle.std.proofs.lemmas.Bool.{cases_Bool, or_cases}
 use Rattle.std.proofs.lemmas.List.Elements.{All-contains}
 use Rattle.std.proofs.lemmas.Option.{slice_get_within}
@@ -40,7 +41,8 @@ slice_get-facts_from : (a n i : ℕ) → i < n → slice_get (facts_from a n) i 
 unfolding facts_from
 slice_get-facts_from a zero i l = absurd (omega arith)
 slice_get-facts_from a (suc n) zero l = let e : a ≡ a + 0 = omega arith in ap (λ x. Some (fact.Concept x 0)) e
-slice_get-facts_from a (suc n) (suc i) l = let e : suc a + i ≡ a + suc i = omega arith in slice_get-facts_from (suc a) n i (omega arith) ∙ ap (λ x. Some (fact.Concept x 0)) e
+slice_get-facts_from a (suc n) (suc i) l = let e : suc a + i ≡ a + suc i = omega arith in
+    slice_get-facts_from (suc a) n i (omega arith) ∙ ap (λ x. Some (fact.Concept x 0)) e
 
 -- ---- the axioms
 
@@ -59,7 +61,8 @@ module _ (p : Priority) (h : IsPriority p) where
   base = record { axioms = rules_of p.own p.couples; facts = facts_from 0 p.facts; pairs = p.pairs }
 
   -- each axiom is the disjointness of a self-inconsistent fact's concept with itself, or of two concepts of facts in conflict
-  rule_cases : (rule : Axiom) → Contains (rules_of p.own p.couples) rule → ((i : ℕ) × Contains p.own i × (rule ≡ rule_of i i)) ⊎ ((i : ℕ) × (j : ℕ) × Contains p.couples (i, j) × (rule ≡ rule_of i j))
+  rule_cases : (rule : Axiom) → Contains (rules_of p.own p.couples) rule → ((i : ℕ) × Contains p.own i × (rule ≡ rule_of i i))
+      ⊎ ((i : ℕ) × (j : ℕ) × Contains p.couples (i, j) × (rule ≡ rule_of i j))
   unfolding rules_of
   rule_cases rule m = elim (append_cases (map (λ (i : ℕ). rule_of i i) p.own) (map (λ (c : ℕ × ℕ). rule_of c.0 c.1) p.couples) rule m) [
     | inl k ↦ (let (i, o, e) = Contains-map_cases (λ (i : ℕ). rule_of i i) p.own rule k in inl (i, o, sym e))
@@ -68,11 +71,13 @@ module _ (p : Priority) (h : IsPriority p) where
 
   own_rule : (i : ℕ) → Contains p.own i → Contains (rules_of p.own p.couples) (rule_of i i)
   unfolding rules_of
-  own_rule i o = append_left (map (λ (i : ℕ). rule_of i i) p.own) (map (λ (c : ℕ × ℕ). rule_of c.0 c.1) p.couples) (rule_of i i) (Contains-map (λ (i : ℕ). rule_of i i) p.own i o)
+  own_rule i o = append_left (map (λ (i : ℕ). rule_of i i) p.own) (map (λ (c : ℕ × ℕ). rule_of c.0 c.1) p.couples) (rule_of i i)
+      (Contains-map (λ (i : ℕ). rule_of i i) p.own i o)
 
   couple_rule : (i j : ℕ) → Contains p.couples (i, j) → Contains (rules_of p.own p.couples) (rule_of i j)
   unfolding rules_of
-  couple_rule i j o = append_right (map (λ (i : ℕ). rule_of i i) p.own) (map (λ (c : ℕ × ℕ). rule_of c.0 c.1) p.couples) (rule_of i j) (Contains-map (λ (c : ℕ × ℕ). rule_of c.0 c.1) p.couples (i, j) o)
+  couple_rule i j o = append_right (map (λ (i : ℕ). rule_of i i) p.own) (map (λ (c : ℕ × ℕ). rule_of c.0 c.1) p.couples) (rule_of i j)
+      (Contains-map (λ (c : ℕ × ℕ). rule_of c.0 c.1) p.couples (i, j) o)
 
   names : (rule : Axiom) → Contains base.axioms rule → IsOfNames rule
   unfolding base rule_of
@@ -111,7 +116,8 @@ module _ (p : Priority) (h : IsPriority p) where
       from zero w = eq-eqb a b w
       from (suc n) (x, w, m) = absurd (no_inclusion x b m)
 
-  told : TellConflicts base (λ i. own_test (λ a b. a == b) base.axioms (slice_get base.facts i)) (λ i j. clash_test (λ a b. a == b) base.axioms (slice_get base.facts i) (slice_get base.facts j))
+  told : TellConflicts base (λ i. own_test (λ a b. a == b) base.axioms (slice_get base.facts i))
+      (λ i j. clash_test (λ a b. a == b) base.axioms (slice_get base.facts i) (slice_get base.facts j))
   told = names_tell base names facts (λ a b. a == b) tells
 
   -- which concepts are apart
@@ -148,7 +154,8 @@ module _ (p : Priority) (h : IsPriority p) where
       moved : (i j a b : ℕ) → a ≡ i → b ≡ j → Contains p.couples (i, j) → Contains p.couples (a, b)
       moved i j a b e f o = subst (λ x. Contains p.couples (a, x)) (sym f) (subst (λ x. Contains p.couples (x, j)) (sym e) o)
 
-      go : (rule : Axiom) → splits (λ a b. a == b) rule a b ≡ true → ((i : ℕ) × Contains p.own i × (rule ≡ rule_of i i)) ⊎ ((i : ℕ) × (j : ℕ) × Contains p.couples (i, j) × (rule ≡ rule_of i j)) → ((a ≡ b) × Contains p.own a) ⊎ Conflict p a b
+      go : (rule : Axiom) → splits (λ a b. a == b) rule a b ≡ true → ((i : ℕ) × Contains p.own i × (rule ≡ rule_of i i))
+          ⊎ ((i : ℕ) × (j : ℕ) × Contains p.couples (i, j) × (rule ≡ rule_of i j)) → ((a ≡ b) × Contains p.own a) ⊎ Conflict p a b
       go rule s (inl (i, o, e)) = elim (split_by i i a b (subst (λ r. splits (λ a b. a == b) r a b ≡ true) e s)) [
         | inl k ↦ inl (k.0 ∙ sym k.1, subst (Contains p.own) (sym k.0) o)
         | inr k ↦ inl (k.1 ∙ sym k.0, subst (Contains p.own) (sym k.1) o)
@@ -187,7 +194,8 @@ module _ (p : Priority) (h : IsPriority p) where
   conflict_exact : (i j : ℕ) → i < p.facts → j < p.facts → Conflict p i j ↔ meaning.Conflict base i j
   unfolding apart
   conflict_exact i j l k = (
-    (λ c. (told.clash_iff i j (within i l) (within j k)).0 (same ∙ and_true (not (apart i i)) (not (apart j j) && apart i j) (not_apart i (λ o. h.apart i j o c))
+    (λ c. (told.clash_iff i j (within i l) (within j k)).0 (same
+        ∙ and_true (not (apart i i)) (not (apart j j) && apart i j) (not_apart i (λ o. h.apart i j o c))
         (and_true (not (apart j j)) (apart i j) (not_apart j (λ o. h.apart j i o (Conflict-sym p i j c))) (met c)))),
     (λ w. from (sym same ∙ (told.clash_iff i j (within i l) (within j k)).1 w)),
   )
@@ -196,7 +204,8 @@ module _ (p : Priority) (h : IsPriority p) where
       within i l = subst (λ n. i < n) (sym count) l
 
       same : clash_test (λ a b. a == b) base.axioms (slice_get base.facts i) (slice_get base.facts j) ≡ (not (apart i i) && (not (apart j j) && apart i j))
-      same = ap (λ o. clash_test (λ a b. a == b) base.axioms o (slice_get base.facts j)) (fact_at i l) ∙ ap (clash_test (λ a b. a == b) base.axioms (Some (fact.Concept i 0))) (fact_at j k)
+      same = ap (λ o. clash_test (λ a b. a == b) base.axioms o (slice_get base.facts j)) (fact_at i l)
+          ∙ ap (clash_test (λ a b. a == b) base.axioms (Some (fact.Concept i 0))) (fact_at j k)
 
       met : Conflict p i j → apart i j ≡ true
       met (inl m) = (apart_by i j (couple_rule i j m)).0
@@ -225,7 +234,8 @@ module _ (p : Priority) (h : IsPriority p) where
     );
     pairs_exact = λ i j. (
       (λ m. ((All-contains (λ (c : ℕ × ℕ). (c.0 < c.1) × (c.1 < p.facts)) p.couples (i, j) h.couples_known m).0, meant i j (inl m))),
-      (λ w. ordered i j w.0 ((conflict_exact i j (below i (Conflict-within base i j w.1)) (below j (Conflict-within base j i (extension.Conflict-sym base i j w.1)))).1 w.1)),
+      (λ w. ordered i j w.0 ((conflict_exact i j (below i (Conflict-within base i j w.1))
+          (below j (Conflict-within base j i (extension.Conflict-sym base i j w.1)))).1 w.1)),
     );
     owns_ascending = h.own_ascending;
     pairs_ascending = h.couples_ascending;
@@ -233,14 +243,20 @@ module _ (p : Priority) (h : IsPriority p) where
     where
       ordered : (i j : ℕ) → i < j → Conflict p i j → Contains p.couples (i, j)
       ordered i j l (inl m) = m
-      ordered i j l (inr m) = absurd (let w = All-contains (λ (c : ℕ × ℕ). (c.0 < c.1) × (c.1 < p.facts)) p.couples (j, i) h.couples_known m in let k = w.0 in omega arith)
+      ordered i j l (inr m) = absurd (let w = All-contains (λ (c : ℕ × ℕ). (c.0 < c.1) × (c.1 < p.facts)) p.couples (j, i) h.couples_known m in let k = w.0 in
+          omega arith)
 
   -- it is the priority of the knowledge base in mode `pareto`, and in mode `all` where nothing is better
   pub has_input : (kb : Knowledge) × IsPriorityOf kb modes.Pareto p × (((i j : ℕ) → ¬ IsBetter p i j) → IsPriorityOf kb modes.All p)
   unfolding base
   has_input = (
     base,
-    record { facts = sym count; conflicts = conflicts; better = λ i j. ((λ b. record { ranked = not_all; listed = listed i j b; conflict = meant i j (h.conflicting i j b) }), (λ w. unlisted i j w.listed)) },
+    record {
+      facts = sym count;
+      conflicts = conflicts;
+      better = λ i j.
+          ((λ b. record { ranked = not_all; listed = listed i j b; conflict = meant i j (h.conflicting i j b) }), (λ w. unlisted i j w.listed));
+    },
     (λ none. record { facts = sym count; conflicts = conflicts; better = λ i j. ((λ b. absurd (none i j b)), (λ w. absurd (w.ranked refl))) }),
   )
     where

@@ -38,7 +38,8 @@ module _ (input : Input) (b : List Line) (r : AreRight input b) (own : Own) wher
   none_out (line.Done how core) k = ((λ h. h), (λ h. h))
   none_out (line.Answer brave ar iar cores names tuple) k = ((λ h. h), (λ h. h))
 
-  obeys : (l : Line) → IsOwnFor input b own l → MayCome input.form input.kb.axioms (place_of b) l → ObeysAt input own (standing_of (length input.kb.facts) b) l ↔ Obeys input b l
+  obeys : (l : Line) → IsOwnFor input b own l → MayCome input.form input.kb.axioms (place_of b) l
+      → ObeysAt input own (standing_of (length input.kb.facts) b) l ↔ Obeys input b l
   obeys (line.Head axioms budget facts keep repairs version) k m = ((λ h. h), (λ h. h))
   obeys (line.Cq o query step) k m = rules.cq o query step
   obeys (line.Conflict facts rule member) k m = rules.conflict own.all k facts rule member
@@ -54,8 +55,21 @@ module _ (input : Input) (b : List Line) (r : AreRight input b) (own : Own) wher
   judges : (l : Line) → IsOwnFor input b own l → JudgesLine input b own (standing_of (length input.kb.facts) b) l
   judges l k = record {
     right = (
-      (λ w. record { order = w.order.0; query_left = (rules.query_left l).0 w.order.1; closed = (rules.closed l).0 w.closed; complete = (none_out l k).0 w.complete; own = (obeys l k w.order.0).0 w.own_rule }),
-      (λ w. record { order = (w.order, (rules.query_left l).1 w.query_left); closed = (rules.closed l).1 w.closed; complete = (none_out l k).1 w.complete; own_rule = (obeys l k w.order).1 w.own }),
+      (λ w. record {
+        order = w.order.0;
+        query_left = (rules.query_left l).0 w.order.1;
+        closed = (rules.closed l).0 w.closed;
+        complete =
+            (none_out l k).0 w.complete;
+        own = (obeys l k w.order.0).0 w.own_rule;
+      }),
+      (λ w. record {
+        order = (w.order, (rules.query_left l).1 w.query_left);
+        closed = (rules.closed l).1 w.closed;
+        complete =
+            (none_out l k).1 w.complete;
+        own_rule = (obeys l k w.order).1 w.own;
+      }),
     );
     breaks = λ r. (to r, from r);
   }
@@ -70,7 +84,10 @@ module _ (input : Input) (b : List Line) (r : AreRight input b) (own : Own) wher
       from r (inl (e, n)) = inl (e, λ o. n ((in_order l).0 o))
       from r (inr (o, inl (e, n))) = inr ((in_order l).1 o, inl (e, λ c. n ((rules.closed l).0 c)))
       from r (inr (o, inr (c, inl (e, n)))) = inr ((in_order l).1 o, inr ((rules.closed l).1 c, inl (e, λ m. n ((none_out l k).0 m))))
-      from r (inr (o, inr (c, inr (m, (e, n))))) = inr ((in_order l).1 o, inr ((rules.closed l).1 c, inr ((none_out l k).1 m, (e, λ w. n ((obeys l k o.0).0 w)))))
+      from r (inr (o, inr (c, inr (m, (e, n))))) = inr (
+        (in_order l).1 o,
+        inr ((rules.closed l).1 c, inr ((none_out l k).1 m, (e, λ w. n ((obeys l k o.0).0 w)))),
+      )
 
 pub judged : LinesAreJudged
 judged input b r own l k = judges input b r own l k

@@ -80,7 +80,14 @@ up_to_22 : AreRight about b22
 up_to_22 = (r22, up_to_21)
 
 r23 : Right about b22 l23
-r23 = record { order = refl; query_left = tt; closed = λ o e. absurd (cc); complete = tt; own = ((rules_kept about b22 up_to_22).try' refl question.Iar (9 ∷ [])).0 refl }
+r23 = record {
+  order = refl;
+  query_left = tt;
+  closed = λ o e. absurd (cc);
+  complete = tt;
+  own =
+      ((rules_kept about b22 up_to_22).try' refl question.Iar (9 ∷ [])).0 refl;
+}
 
 up_to_23 : AreRight about b23
 up_to_23 = (r23, up_to_22)

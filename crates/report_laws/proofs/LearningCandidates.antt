@@ -1,5 +1,6 @@
 -- The candidates of the second worked report with their causes, what its queries match with, and that its blocks are closed.
-use Rattle.std.proofs.Common.{◌≡◌, ℕ, zero, suc, ◌<◌, inl, inr, List, [], ◌∷◌, Contains, Some, slice_get, ◌==◌, eqb-true, IsTrue, ◌↔◌, refl, sym, subst, ap, ◌∙◌, arith}
+use Rattle.std.proofs.Common.{◌≡◌, ℕ, zero, suc, ◌<◌, inl, inr, List, [], ◌∷◌, Contains, Some, slice_get, ◌==◌, eqb-true, IsTrue, ◌↔◌, refl, sym, subst, ap}
+use Rattle.std.proofs.Common.{◌∙◌, arith}
 use Rattle.std.proofs.lemmas.Bool.{cases_eq}
 use Rattle.std.proofs.lemmas.List.Elements.{All-contains, All-from_recursion}
 use Rattle.std.proofs.lemmas.List.Kept.{AllPairs-cons}
@@ -35,7 +36,8 @@ use Rattle.report_laws.proofs.LearningTable.{names, IsDisjointness, no_inclusion
 -- ---- candidates
 
 -- the individual is in A by the set exactly where the set has a fact that says so
-in_a : (S : ℕ → Type 0) (t : ℕ) → FactsEntail crowded_register S who_in_a (t ∷ []) ↔ ((i : ℕ) × (a : ℕ) × S i × (slice_get crowded_register.facts i ≡ Some (fact.Concept a t)) × IsTrue (a == 0))
+in_a : (S : ℕ → Type 0) (t : ℕ) → FactsEntail crowded_register S who_in_a (t ∷ [])
+    ↔ ((i : ℕ) × (a : ℕ) × S i × (slice_get crowded_register.facts i ≡ Some (fact.Concept a t)) × IsTrue (a == 0))
 in_a S t = name_entailed crowded_register names facts (λ a b. a == b) tells S 0 0 t
 
 pub no_pairs : (i j : ℕ) → i < j → j < 1 → ⊥
@@ -59,7 +61,8 @@ second_named : Contains tuples (1 ∷ [])
 second_named = Contains-later (0 ∷ []) ((1 ∷ []) ∷ []) (1 ∷ []) (Contains-head (1 ∷ []) [])
 
 named : (i : ℕ) (f : Fact) → slice_get crowded_register.facts i ≡ Some f → IsNamed f
-named i f e = All-contains IsNamed crowded_register.facts f (All-from_recursion IsNamed crowded_register.facts (first_named, (first_named, (first_named, (first_named, (second_named, tt)))))) (Contains-slice_get crowded_register.facts i f e)
+named i f e = All-contains IsNamed crowded_register.facts f (All-from_recursion IsNamed crowded_register.facts
+    (first_named, (first_named, (first_named, (first_named, (second_named, tt)))))) (Contains-slice_get crowded_register.facts i f e)
 
 each_named : (tuple : List ℕ) → FactsEntail crowded_register Every who_in_a tuple → Contains tuples tuple
 each_named [] (k, (v, h, b)) = absurd h
@@ -68,15 +71,18 @@ each_named (c ∷ d ∷ more) (k, (v, (h, u), b)) = absurd u
 
 pub candidates : AreCandidates crowded_register who_in_a tuples
 candidates = record {
-  entailed = All-from_recursion (FactsEntail crowded_register Every who_in_a) tuples ((in_a Every 0).1 (0, 0, tt, refl, refl), ((in_a Every 1).1 (4, 0, tt, refl, refl), tt));
+  entailed = All-from_recursion (FactsEntail crowded_register Every who_in_a) tuples
+      ((in_a Every 0).1 (0, 0, tt, refl, refl), ((in_a Every 1).1 (4, 0, tt, refl, refl), tt));
   complete = each_named;
-  ascending = AllPairs-cons (λ a b. slice_cmp nat_cmp a b ≡ Less) (0 ∷ []) ((1 ∷ []) ∷ []) (All-from_recursion (λ b. slice_cmp nat_cmp (0 ∷ []) b ≡ Less) ((1 ∷ []) ∷ []) (refl, tt)) (λ i j d a b. absurd (no_pairs i j a b));
+  ascending = AllPairs-cons (λ a b. slice_cmp nat_cmp a b ≡ Less) (0 ∷ []) ((1 ∷ []) ∷ [])
+      (All-from_recursion (λ b. slice_cmp nat_cmp (0 ∷ []) b ≡ Less) ((1 ∷ []) ∷ []) (refl, tt)) (λ i j d a b. absurd (no_pairs i j a b));
 }
 
 -- ---- causes
 
 -- the only fact that puts the individual in A is its one cause
-module _ (t i : ℕ) (at : slice_get crowded_register.facts i ≡ Some (fact.Concept 0 t)) (only : (j : ℕ) → slice_get crowded_register.facts j ≡ Some (fact.Concept 0 t) → j ≡ i) where
+module _ (t i : ℕ) (at : slice_get crowded_register.facts i ≡ Some (fact.Concept 0 t))
+    (only : (j : ℕ) → slice_get crowded_register.facts j ≡ Some (fact.Concept 0 t) → j ≡ i) where
   entailing : (S : ℕ → Type 0) → FactsEntail crowded_register S who_in_a (t ∷ []) → S i
   entailing S e =
       let (j, a, s, here, z) = (in_a S t).0 e in
@@ -91,7 +97,8 @@ module _ (t i : ℕ) (at : slice_get crowded_register.facts i ≡ Some (fact.Con
 
   is_cause : IsCause crowded_register who_in_a (t ∷ []) (Contains (i ∷ []))
   is_cause = record {
-    consistent = ((means crowded_register mode.Pareto priority is_priority).free_list (i ∷ [])).0 (record { own = λ j m. Contains-nil j; pairs = λ a b m k. itself a b (sym (only_one i a m)) (sym (only_one i b k)) });
+    consistent = ((means crowded_register mode.Pareto priority is_priority).free_list (i ∷ [])).0
+        (record { own = λ j m. Contains-nil j; pairs = λ a b m k. itself a b (sym (only_one i a m)) (sym (only_one i b k)) });
     entails = entailed (Contains (i ∷ [])) (Contains-head i []);
     least = λ j m e. (entailing (Without j (Contains (i ∷ []))) e).1 (only_one i j m);
   }
@@ -162,32 +169,53 @@ image_of_one t i at = record {
 }
   where
     to : (n : ℕ) → Contains (i ∷ []) n → (f : Fact) × Contains (fact.Concept 0 t ∷ []) f × (slice_get crowded_register.facts n ≡ Some f)
-    to n m = (fact.Concept 0 t, Contains-head (fact.Concept 0 t) [], subst (λ (k : ℕ). slice_get crowded_register.facts k ≡ Some (fact.Concept 0 t)) (only_one i n m) at)
+    to n m = (
+      fact.Concept 0 t,
+      Contains-head (fact.Concept 0 t) [],
+      subst (λ (k : ℕ). slice_get crowded_register.facts k ≡ Some (fact.Concept 0 t)) (only_one i n m) at,
+    )
 
     from : (n : ℕ) (f : Fact) → fact.Concept 0 t ≡ f → slice_get crowded_register.facts n ≡ Some f → Contains (i ∷ []) n
     from n f d e = Contains-one i n (fact_number n f e ∙ sym (ap number_of d) ∙ sym (fact_number i (fact.Concept 0 t) at))
 
 -- the query of two concept names has their two facts as its image
-pub image_of_two : (i j : ℕ) → i < j → slice_get crowded_register.facts i ≡ Some (fact.Concept i 0) → slice_get crowded_register.facts j ≡ Some (fact.Concept j 0) → HasImage crowded_register.facts (both_names i j) [] (i ∷ j ∷ [])
+pub image_of_two : (i j : ℕ) → i < j → slice_get crowded_register.facts i ≡ Some (fact.Concept i 0)
+    → slice_get crowded_register.facts j ≡ Some (fact.Concept j 0) → HasImage crowded_register.facts (both_names i j) [] (i ∷ j ∷ [])
 image_of_two i j l at here = record {
   ascending = AllPairs-cons (λ a b. a < b) i (j ∷ []) (All-from_recursion (λ b. i < b) (j ∷ []) (l, tt)) (one_ascends j);
   match = (
     fact.Concept i 0 ∷ fact.Concept j 0 ∷ [],
-    ((λ x. 0), tt, ((Contains-slice_get crowded_register.facts i (fact.Concept i 0) at, (Named 0, refl, refl)), ((Contains-slice_get crowded_register.facts j (fact.Concept j 0) here, (Named 0, refl, refl)), tt))),
+    (
+      (λ x. 0),
+      tt,
+      (
+        (Contains-slice_get crowded_register.facts i (fact.Concept i 0) at, (Named 0, refl, refl)),
+        ((Contains-slice_get crowded_register.facts j (fact.Concept j 0) here, (Named 0, refl, refl)), tt),
+      ),
+    ),
     λ n. (to n, λ h. from n h.0 h.1 h.2),
   );
 }
   where
     to : (n : ℕ) → Contains (i ∷ j ∷ []) n → (f : Fact) × Contains (fact.Concept i 0 ∷ fact.Concept j 0 ∷ []) f × (slice_get crowded_register.facts n ≡ Some f)
     to n m = elim (Contains-cases i (j ∷ []) n m) [
-      | inl e ↦ (fact.Concept i 0, Contains-head (fact.Concept i 0) (fact.Concept j 0 ∷ []), subst (λ (k : ℕ). slice_get crowded_register.facts k ≡ Some (fact.Concept i 0)) e at)
-      | inr k ↦ (fact.Concept j 0, Contains-later (fact.Concept i 0) (fact.Concept j 0 ∷ []) (fact.Concept j 0) (Contains-head (fact.Concept j 0) []), subst (λ (k : ℕ). slice_get crowded_register.facts k ≡ Some (fact.Concept j 0)) (only_one j n k) here)
+      | inl e ↦ (
+        fact.Concept i 0,
+        Contains-head (fact.Concept i 0) (fact.Concept j 0 ∷ []),
+        subst (λ (k : ℕ). slice_get crowded_register.facts k ≡ Some (fact.Concept i 0)) e at,
+      )
+      | inr k ↦ (
+        fact.Concept j 0,
+        Contains-later (fact.Concept i 0) (fact.Concept j 0 ∷ []) (fact.Concept j 0) (Contains-head (fact.Concept j 0) []),
+        subst (λ (k : ℕ). slice_get crowded_register.facts k ≡ Some (fact.Concept j 0)) (only_one j n k) here,
+      )
     ]
 
     from : (n : ℕ) (f : Fact) → Contains (fact.Concept i 0 ∷ fact.Concept j 0 ∷ []) f → slice_get crowded_register.facts n ≡ Some f → Contains (i ∷ j ∷ []) n
     from n f m e = elim (Contains-cases (fact.Concept i 0) (fact.Concept j 0 ∷ []) f m) [
       | inl d ↦ subst (Contains (i ∷ j ∷ [])) (ap number_of d ∙ sym (fact_number n f e)) (Contains-head i (j ∷ []))
-      | inr k ↦ subst (Contains (i ∷ j ∷ [])) (ap number_of (only_one (fact.Concept j 0) f k) ∙ sym (fact_number n f e)) (Contains-later i (j ∷ []) j (Contains-head j []))
+      | inr k ↦ subst (Contains (i ∷ j ∷ [])) (ap number_of (only_one (fact.Concept j 0) f k) ∙ sym (fact_number n f e))
+          (Contains-later i (j ∷ []) j (Contains-head j []))
     ]
 
 -- ---- closed blocks
@@ -212,7 +240,8 @@ one_some : (x y : QAtom) → Some x ≡ Some y → x ≡ y
 one_some x y e = cc
 
 -- two atoms of different predicates have no reduce step
-unlike : (a b : ℕ) (s t : Term) → (a ≡ b → ⊥) → (x y : QAtom) (f : Term → Term) (z : QAtom) → atom.Concept a s ≡ x → atom.Concept b t ≡ y → IsUnified x y f z → ⊥
+unlike : (a b : ℕ) (s t : Term) → (a ≡ b → ⊥) → (x y : QAtom) (f : Term → Term) (z : QAtom) → atom.Concept a s ≡ x → atom.Concept b t ≡ y → IsUnified x y f z
+    → ⊥
 unlike a b s t n x y f z e d u = n (subst (λ w. IsUnified w (atom.Concept b t) f z) (sym e) (subst (λ w. IsUnified x w f z) (sym d) u)).0
 
 pub query_closed : IsClosedBlock crowded_register.axioms (who_in_a ∷ [])
@@ -229,6 +258,7 @@ block_closed a b differ p q m s = absurd (none q (subst (λ (z : Query). IsSucce
     none : (q : Query) → IsSuccessor crowded_register.axioms (both_names a b) q → ⊥
     none q (inl (i, n, (rule, p, k, (x, y, g, s, f), e))) = no_step rule x y (Contains-slice_get crowded_register.axioms n rule k) s
     none q (inr (i, zero, (p, (x, y, f, z, l, g, g', u, w), e))) = omega arith
-    none q (inr (zero, suc zero, (p, (x, y, f, z, l, g, g', u, w), e))) = unlike a b (Var 0) (Var 0) differ x y f z (one_some (atom.Concept a (Var 0)) x g) (one_some (atom.Concept b (Var 0)) y g') u
+    none q (inr (zero, suc zero, (p, (x, y, f, z, l, g, g', u, w), e))) =
+        unlike a b (Var 0) (Var 0) differ x y f z (one_some (atom.Concept a (Var 0)) x g) (one_some (atom.Concept b (Var 0)) y g') u
     none q (inr (suc i, suc zero, (p, (x, y, f, z, l, g, g', u, w), e))) = omega arith
     none q (inr (i, suc (suc j), (p, (x, y, f, z, l, g, g', u, w), e))) = none_past_two (atom.Concept a (Var 0)) (atom.Concept b (Var 0)) j y g'

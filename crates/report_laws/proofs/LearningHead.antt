@@ -9,13 +9,21 @@ use Rattle.report_laws.specs.LearningExample.{apart, crowded_register, who_in_a,
 use Rattle.report_laws.proofs.AtStandingLemmas.{rules_kept}
 use Rattle.report_laws.proofs.LearningTable.{conflict_lists}
 use Rattle.report_laws.proofs.LearningCandidates.{all_candidates, candidates_are, image_of_one, image_of_two, query_closed, block_closed}
-use Rattle.report_laws.proofs.LearningLines.{about, l1, l2, l3, l4, l5, l6, l7, l8, l9, l10, l11, l12, l13, b1, b2, b3, b4, b5, b6, b7, b8, b9, b10, b11, b12, b13}
+use Rattle.report_laws.proofs.LearningLines.{about, l1, l2, l3, l4, l5, l6, l7, l8, l9, l10, l11, l12, l13, b1, b2, b3, b4, b5, b6, b7, b8, b9, b10, b11, b12}
+use Rattle.report_laws.proofs.LearningLines.{b13}
 use Rattle.report_rules.specs.Accepted.{AreRight}
 
 -- ---- the head and the blocks
 
 r1 : Right about [] l1
-r1 = record { order = refl; query_left = tt; closed = λ o e. absurd (cc); complete = tt; own = record { axioms_are = refl; facts_are = refl; version_is = refl } }
+r1 = record {
+  order = refl;
+  query_left = tt;
+  closed = λ o e. absurd (cc);
+  complete = tt;
+  own =
+      record { axioms_are = refl; facts_are = refl; version_is = refl };
+}
 
 r2 : Right about b1 l2
 r2 = record { order = refl; query_left = λ e. absurd (cc); closed = λ o e. absurd (cc); complete = λ e. absurd (cc); own = refl }
@@ -34,7 +42,8 @@ r4 : Right about b3 l4
 r4 = record {
   order = inr (omega arith, (apart 0 2, both_names 0 2, refl, refl), λ i l h. absurd (omega arith));
   query_left = tt;
-  closed = λ o e. inr (let h : origin.Negative 0 ≡ o = cc in subst (λ k. IsClosedBlock crowded_register.axioms (block_of k b3)) h (block_closed 0 1 (λ d. omega arith)));
+  closed = λ o e. inr (let h : origin.Negative 0 ≡ o = cc in subst (λ k. IsClosedBlock crowded_register.axioms (block_of k b3)) h
+      (block_closed 0 1 (λ d. omega arith)));
   complete = tt;
   own = (apart 0 2, refl, refl);
 }
@@ -43,7 +52,8 @@ r5 : Right about b4 l5
 r5 = record {
   order = inr (omega arith, (apart 1 2, both_names 1 2, refl, refl), λ i l h. absurd (omega arith));
   query_left = tt;
-  closed = λ o e. inr (let h : origin.Negative 1 ≡ o = cc in subst (λ k. IsClosedBlock crowded_register.axioms (block_of k b4)) h (block_closed 0 2 (λ d. omega arith)));
+  closed = λ o e. inr (let h : origin.Negative 1 ≡ o = cc in subst (λ k. IsClosedBlock crowded_register.axioms (block_of k b4)) h
+      (block_closed 0 2 (λ d. omega arith)));
   complete = tt;
   own = (apart 1 2, refl, refl);
 }
@@ -52,7 +62,8 @@ r6 : Right about b5 l6
 r6 = record {
   order = inr (omega arith, (apart 1 3, both_names 1 3, refl, refl), λ i l h. absurd (omega arith));
   query_left = tt;
-  closed = λ o e. inr (let h : origin.Negative 2 ≡ o = cc in subst (λ k. IsClosedBlock crowded_register.axioms (block_of k b5)) h (block_closed 1 2 (λ d. omega arith)));
+  closed = λ o e. inr (let h : origin.Negative 2 ≡ o = cc in subst (λ k. IsClosedBlock crowded_register.axioms (block_of k b5)) h
+      (block_closed 1 2 (λ d. omega arith)));
   complete = tt;
   own = (apart 1 3, refl, refl);
 }
@@ -61,7 +72,8 @@ r7 : Right about b6 l7
 r7 = record {
   order = inr (omega arith, (apart 2 3, both_names 2 3, refl, refl), λ i l h. absurd (omega arith));
   query_left = tt;
-  closed = λ o e. inr (let h : origin.Negative 3 ≡ o = cc in subst (λ k. IsClosedBlock crowded_register.axioms (block_of k b6)) h (block_closed 1 3 (λ d. omega arith)));
+  closed = λ o e. inr (let h : origin.Negative 3 ≡ o = cc in subst (λ k. IsClosedBlock crowded_register.axioms (block_of k b6)) h
+      (block_closed 1 3 (λ d. omega arith)));
   complete = tt;
   own = (apart 2 3, refl, refl);
 }
@@ -83,9 +95,14 @@ pub r8 : Right about b7 l8
 r8 = record {
   order = no_further;
   query_left = tt;
-  closed = λ o e. inr (let h : origin.Negative 4 ≡ o = cc in subst (λ k. IsClosedBlock crowded_register.axioms (block_of k b7)) h (block_closed 2 3 (λ d. omega arith)));
+  closed = λ o e. inr (let h : origin.Negative 4 ≡ o = cc in subst (λ k. IsClosedBlock crowded_register.axioms (block_of k b7)) h
+      (block_closed 2 3 (λ d. omega arith)));
   complete = tt;
-  own = record { next = ((0 ∷ 2 ∷ []) ∷ (1 ∷ 2 ∷ []) ∷ (1 ∷ 3 ∷ []) ∷ (2 ∷ 3 ∷ []) ∷ [], conflict_lists); found = (both_names 0 1, refl, image_of_two 0 1 (omega arith) refl refl) };
+  own = record {
+    next = ((0 ∷ 2 ∷ []) ∷ (1 ∷ 2 ∷ []) ∷ (1 ∷ 3 ∷ []) ∷ (2 ∷ 3 ∷ []) ∷ [], conflict_lists);
+    found =
+        (both_names 0 1, refl, image_of_two 0 1 (omega arith) refl refl);
+  };
 }
 
 pub r9 : Right about b8 l9
@@ -94,7 +111,11 @@ r9 = record {
   query_left = tt;
   closed = λ o e. absurd (cc);
   complete = tt;
-  own = record { next = ((1 ∷ 2 ∷ []) ∷ (1 ∷ 3 ∷ []) ∷ (2 ∷ 3 ∷ []) ∷ [], conflict_lists); found = (both_names 0 2, refl, image_of_two 0 2 (omega arith) refl refl) };
+  own = record {
+    next = ((1 ∷ 2 ∷ []) ∷ (1 ∷ 3 ∷ []) ∷ (2 ∷ 3 ∷ []) ∷ [], conflict_lists);
+    found =
+        (both_names 0 2, refl, image_of_two 0 2 (omega arith) refl refl);
+  };
 }
 
 pub r10 : Right about b9 l10

@@ -52,7 +52,8 @@ none_lives w = let l : 0 < 0 = w.many in omega arith
 
 not_learned : Obeys about b20 (line.Forget (2 ∷ [])) → ⊥
 unfolding variable_of
-not_learned w = true≢false (sym (recursion_from_All (λ n. IsTrue (is_learned two_learned n)) (2 ∷ []) (((rules_kept about b20 up_to_20).forget (2 ∷ [])).1 w).live).0)
+not_learned w = true≢false (sym (recursion_from_All (λ n. IsTrue (is_learned two_learned n)) (2 ∷ [])
+    (((rules_kept about b20 up_to_20).forget (2 ∷ [])).1 w).live).0)
 
 -- ---- the reports
 

@@ -1,5 +1,6 @@
 -- The register of the second worked report: its conflicts, its priority and its base clauses.
-use Rattle.std.proofs.Common.{◌≡◌, ℕ, zero, suc, ◌<◌, ◌⊎◌, inl, inr, List, [], ◌∷◌, ◌++◌, map, filter, Contains, Bool, true, false, true≢false, not, ◌&&◌, ◌||◌, ◌==◌, eqb-true, eq-eqb, Some, slice_get, nat_lt, refl, sym, subst, ap, ◌∙◌, arith}
+use Rattle.std.proofs.Common.{◌≡◌, ℕ, zero, suc, ◌<◌, ◌⊎◌, inl, inr, List, [], ◌∷◌, ◌++◌, map, filter, Contains, Bool, true, false, true≢false, not, ◌&&◌}
+use Rattle.std.proofs.Common.{◌||◌, ◌==◌, eqb-true, eq-eqb, Some, slice_get, nat_lt, refl, sym, subst, ap, ◌∙◌, arith}
 use Rattle.std.specs.List.{list_any, list_all}
 use Rattle.std.proofs.lemmas.Bool.{or_cases, ltb-true}
 use Rattle.std.proofs.lemmas.List.Elements.{All-contains, All-from_recursion}
@@ -52,7 +53,8 @@ numbered : (i : ℕ) → i < 5 → Contains numbers i
 numbered i l = has_there numbers i (below_five (λ i. has numbers i ≡ true) refl refl refl refl refl i l)
 
 number_below : (i : ℕ) → Contains numbers i → i < 5
-number_below i m = All-contains (λ i. i < 5) numbers i (All-from_recursion (λ i. i < 5) numbers (omega arith, (omega arith, (omega arith, (omega arith, (omega arith, tt)))))) m
+number_below i m = All-contains (λ i. i < 5) numbers i (All-from_recursion (λ i. i < 5) numbers
+    (omega arith, (omega arith, (omega arith, (omega arith, (omega arith, tt)))))) m
 
 -- a test of two facts that is passed by all
 square : (t : ℕ → ℕ → Bool) → list_all (λ i. list_all (t i) numbers) numbers ≡ true → (i j : ℕ) → i < 5 → j < 5 → t i j ≡ true
@@ -68,10 +70,12 @@ IsDisjointness (Disjoint x y) = Unit {0}
 IsDisjointness _ = ⊥
 
 pub no_inclusion : (rule : Axiom) → Contains crowded_register.axioms rule → IsDisjointness rule
-no_inclusion rule m = All-contains IsDisjointness crowded_register.axioms rule (All-from_recursion IsDisjointness crowded_register.axioms (tt, (tt, (tt, (tt, (tt, tt)))))) m
+no_inclusion rule m = All-contains IsDisjointness crowded_register.axioms rule
+    (All-from_recursion IsDisjointness crowded_register.axioms (tt, (tt, (tt, (tt, (tt, tt)))))) m
 
 pub facts : (i : ℕ) (f : Fact) → slice_get crowded_register.facts i ≡ Some f → IsOfName f
-facts i f e = All-contains IsOfName crowded_register.facts f (All-from_recursion IsOfName crowded_register.facts (tt, (tt, (tt, (tt, (tt, tt)))))) (Contains-slice_get crowded_register.facts i f e)
+facts i f e = All-contains IsOfName crowded_register.facts f (All-from_recursion IsOfName crowded_register.facts (tt, (tt, (tt, (tt, (tt, tt))))))
+    (Contains-slice_get crowded_register.facts i f e)
 
 pub tells : TellsIncluded crowded_register (λ a b. a == b)
 tells i a c b e = ((λ t. (0, eqb-true a b t)), (λ (n, w). from n w))
@@ -129,10 +133,11 @@ couple_clashes i j m = All-contains IsClash couples (i, j) (All-from_recursion I
 
 -- facts in conflict are a pair of the list
 pub paired : (i j : ℕ) → meaning.Conflict crowded_register i j → Contains couples (i, j) ⊎ Contains couples (j, i)
-paired i j c = elim (or_cases (not (clash i j)) (is_couple i j || is_couple j i) (square (λ i j. not (clash i j) || (is_couple i j || is_couple j i)) refl i j l k)) [
-  | inl n ↦ absurd (true≢false (sym ((told.clash_iff i j l k).1 c) ∙ not_true (clash i j) n))
-  | inr t ↦ elim (or_cases (is_couple i j) (is_couple j i) t) [ inl u ↦ inl (couple_there i j u) | inr u ↦ inr (couple_there j i u) ]
-]
+paired i j c = elim (or_cases (not (clash i j)) (is_couple i j || is_couple j i)
+    (square (λ i j. not (clash i j) || (is_couple i j || is_couple j i)) refl i j l k)) [
+      | inl n ↦ absurd (true≢false (sym ((told.clash_iff i j l k).1 c) ∙ not_true (clash i j) n))
+      | inr t ↦ elim (or_cases (is_couple i j) (is_couple j i) t) [ inl u ↦ inl (couple_there i j u) | inr u ↦ inr (couple_there j i u) ]
+    ]
   where
     l : i < 5
     l = Conflict-within crowded_register i j c
@@ -173,7 +178,13 @@ abbrev pub priority : Priority
 priority = record { facts = 5; own = []; couples = couples; pairs = crowded_register.pairs }
 
 pub better : (i j : ℕ) → IsBetter priority i j → repairs.IsBetter crowded_register mode.Pareto i j
-better i j b = record { ranked = λ e. absurd (cc); listed = b; conflict = All-contains Clash crowded_register.pairs (record { upper = i; lower = j }) (All-from_recursion Clash crowded_register.pairs (conflict 1 2 (omega arith) (omega arith) refl, (conflict 3 1 (omega arith) (omega arith) refl, tt))) b }
+better i j b = record {
+  ranked = λ e. absurd (cc);
+  listed = b;
+  conflict =
+      All-contains Clash crowded_register.pairs (record { upper = i; lower = j })
+      (All-from_recursion Clash crowded_register.pairs (conflict 1 2 (omega arith) (omega arith) refl, (conflict 3 1 (omega arith) (omega arith) refl, tt))) b;
+}
   where
     Clash : Pair → Type 0
     Clash q = meaning.Conflict crowded_register q.upper q.lower
@@ -190,7 +201,11 @@ tells_couple : (i j : ℕ) → Tells (is_couple i j) (Contains couples (i, j))
 tells_couple i j = (couple_there i j, couple_true i j)
 
 tells_better : (i j : ℕ) → Tells (is_better i j) (IsBetter priority i j)
-tells_better i j = (to, λ m. some_passes (λ (q : Pair). q.upper == i && q.lower == j) crowded_register.pairs (record { upper = i; lower = j }) m (ap (λ b. b && j == j) (eq-eqb i i refl) ∙ eq-eqb j j refl))
+tells_better i j = (
+  to,
+  λ m. some_passes (λ (q : Pair). q.upper == i && q.lower == j) crowded_register.pairs (record { upper = i; lower = j }) m
+      (ap (λ b. b && j == j) (eq-eqb i i refl) ∙ eq-eqb j j refl),
+)
   where
     to : is_better i j ≡ true → IsBetter priority i j
     to t =
@@ -204,7 +219,8 @@ speaks i j = j == i || ((is_couple i j || is_couple j i) && not (is_better i j))
 
 tells_speaks : (i j : ℕ) → Tells (speaks i j) ((j ≡ i) ⊎ Blocks priority i j)
 tells_speaks i j = tells_either (j == i) ((is_couple i j || is_couple j i) && not (is_better i j)) (eqb-true j i, eq-eqb j i)
-    (tells_both (is_couple i j || is_couple j i) (not (is_better i j)) (tells_either (is_couple i j) (is_couple j i) (tells_couple i j) (tells_couple j i)) (tells_not (is_better i j) (tells_better i j)))
+    (tells_both (is_couple i j || is_couple j i) (not (is_better i j)) (tells_either (is_couple i j) (is_couple j i) (tells_couple i j) (tells_couple j i))
+    (tells_not (is_better i j) (tells_better i j)))
 
 abbrev pub clause_at : ℕ → List ℕ
 clause_at i = map present (filter (speaks i) numbers)
@@ -212,7 +228,11 @@ clause_at i = map present (filter (speaks i) numbers)
 blocking : (i : ℕ) → i < 5 → IsBlockingClause priority i (clause_at i)
 blocking i l = record {
   ascending = pairs_by_test nat_lt (λ a b. a < b) ltb-true (clause_at i) (below_five (λ i. all_pairs nat_lt (clause_at i) ≡ true) refl refl refl refl refl i l);
-  exact = λ k. (to k, λ (f, s, e). subst (Contains (clause_at i)) (sym e) (Contains-map present (filter (speaks i) numbers) f (filter-Contains (speaks i) numbers f (numbered f (below f s)) ((tells_speaks i f).1 s))));
+  exact = λ k. (
+    to k,
+    λ (f, s, e). subst (Contains (clause_at i)) (sym e)
+        (Contains-map present (filter (speaks i) numbers) f (filter-Contains (speaks i) numbers f (numbered f (below f s)) ((tells_speaks i f).1 s))),
+  );
 }
   where
     below : (f : ℕ) → (f ≡ i) ⊎ Blocks priority i f → f < 5
@@ -240,13 +260,18 @@ by_facts c = (to, λ (f, l, w). from f l w)
   where
     to : Contains base c → (f : ℕ) × (f < 5) × IsClauseOf priority f c
     to m = elim (append_cases (map clause_at numbers) (map pair_clause couples) c m) [
-      | inl n ↦ (let (i, o, e) = Contains-map_cases clause_at numbers c n in (i, number_below i o, inl (subst (IsFactClause priority i) e (of_fact i (number_below i o)))))
-      | inr n ↦ (let (d, o, e) = Contains-map_cases pair_clause couples c n in let w = couple_clashes d.0 d.1 o in let a = w.0 in let b = w.1 in (d.0, omega arith, inr (d.1, o, sym e)))
+      | inl n ↦ (let (i, o, e) = Contains-map_cases clause_at numbers c n in
+          (i, number_below i o, inl (subst (IsFactClause priority i) e (of_fact i (number_below i o)))))
+      | inr n ↦ (let (d, o, e) = Contains-map_cases pair_clause couples c n in let w = couple_clashes d.0 d.1 o in let a = w.0 in let b = w.1 in
+          (d.0, omega arith, inr (d.1, o, sym e)))
     ]
 
     from : (f : ℕ) → f < 5 → IsClauseOf priority f c → Contains base c
-    from f l (inl w) = append_left (map clause_at numbers) (map pair_clause couples) c (subst (Contains (map clause_at numbers)) (fact_clause_unique priority f (clause_at f) c (of_fact f l) w) (Contains-map clause_at numbers f (numbered f l)))
-    from f l (inr (other, m, e)) = append_right (map clause_at numbers) (map pair_clause couples) c (subst (Contains (map pair_clause couples)) (sym e) (Contains-map pair_clause couples (f, other) m))
+    from f l (inl w) = append_left (map clause_at numbers) (map pair_clause couples) c
+        (subst (Contains (map clause_at numbers)) (fact_clause_unique priority f (clause_at f) c (of_fact f l) w)
+        (Contains-map clause_at numbers f (numbered f l)))
+    from f l (inr (other, m, e)) = append_right (map clause_at numbers) (map pair_clause couples) c
+        (subst (Contains (map pair_clause couples)) (sym e) (Contains-map pair_clause couples (f, other) m))
 
 pub base_clauses : AreBaseClauses crowded_register mode.Pareto base
 base_clauses = base_by_facts crowded_register mode.Pareto priority is_priority base by_facts

@@ -54,7 +54,8 @@ two_ascend = AllPairs-cons (λ a b. a < b) 5 (6 ∷ []) (All-from_recursion (λ 
 
 two_differ : HaveDistinctVariables (5 ∷ 6 ∷ [])
 unfolding variable_of
-two_differ = AllPairs-cons (λ k l. variable_of k ≡ variable_of l → ⊥) 5 (6 ∷ []) (All-from_recursion (λ l. variable_of 5 ≡ variable_of l → ⊥) (6 ∷ []) ((λ e. omega arith), tt)) (λ i j d a b. absurd (no_pairs i j a b))
+two_differ = AllPairs-cons (λ k l. variable_of k ≡ variable_of l → ⊥) 5 (6 ∷ [])
+    (All-from_recursion (λ l. variable_of 5 ≡ variable_of l → ⊥) (6 ∷ []) ((λ e. omega arith), tt)) (λ i j d a b. absurd (no_pairs i j a b))
 
 -- ---- the first try isn't easy
 
@@ -97,7 +98,14 @@ not_easy (i, j, m, c, d) = elim (paired i j c) [
 -- ---- the first try
 
 r14 : Right about b13 l14
-r14 = record { order = refl; query_left = tt; closed = λ o e. absurd (cc); complete = tt; own = ((rules_kept about b13 up_to_13).try' refl question.Iar (1 ∷ [])).0 refl }
+r14 = record {
+  order = refl;
+  query_left = tt;
+  closed = λ o e. absurd (cc);
+  complete = tt;
+  own =
+      ((rules_kept about b13 up_to_13).try' refl question.Iar (1 ∷ [])).0 refl;
+}
 
 pub up_to_14 : AreRight about b14
 up_to_14 = (r14, up_to_13)
@@ -155,7 +163,14 @@ up_to_16 = (r16, up_to_15)
 -- ---- the second try
 
 r17 : Right about b16 l17
-r17 = record { order = refl; query_left = tt; closed = λ o e. absurd (cc); complete = tt; own = ((rules_kept about b16 up_to_16).try' refl question.Ar (10 ∷ [])).0 refl }
+r17 = record {
+  order = refl;
+  query_left = tt;
+  closed = λ o e. absurd (cc);
+  complete = tt;
+  own =
+      ((rules_kept about b16 up_to_16).try' refl question.Ar (10 ∷ [])).0 refl;
+}
 
 up_to_17 : AreRight about b17
 up_to_17 = (r17, up_to_16)
@@ -199,7 +214,8 @@ r19 = record {
   query_left = tt;
   closed = λ o e. absurd (cc);
   complete = tt;
-  own = ((rules_kept about b18 up_to_18).done (inl refl) third_live live18 how.Refuted None).0 (refuted_by_test third_live (10 ∷ []) (6 ∷ 4 ∷ 3 ∷ 1 ∷ 10 ∷ []) refl);
+  own = ((rules_kept about b18 up_to_18).done (inl refl) third_live live18 how.Refuted None).0
+      (refuted_by_test third_live (10 ∷ []) (6 ∷ 4 ∷ 3 ∷ 1 ∷ 10 ∷ []) refl);
 }
 
 pub up_to_19 : AreRight about b19

@@ -1,5 +1,6 @@
 -- Lists: what a filter keeps, reversing, and pairs.
-use Rattle.std.proofs.Common.{◌≡◌, suc, ◌⊎◌, inl, inr, List, [], ◌∷◌, ◌++◌, map, Contains, AllPairs, Bool, true, false, true≢false, refl, sym, subst, ap, ◌∙◌, cond, filter, arith}
+use Rattle.std.proofs.Common.{◌≡◌, suc, ◌⊎◌, inl, inr, List, [], ◌∷◌, ◌++◌, map, Contains, AllPairs, Bool, true, false, true≢false, refl, sym, subst, ap, ◌∙◌}
+use Rattle.std.proofs.Common.{cond, filter, arith}
 use Rattle.std.specs.Prelude.{reverse}
 use Rattle.std.proofs.lemmas.List.{reverse-append}
 use Rattle.std.proofs.lemmas.List.Elements.{Contains-append_left, Contains-append_right}
@@ -14,7 +15,8 @@ pub Contains-filter : {X : Type 0} (p : X → Bool) (xs : List X) (x : X) → Co
 Contains-filter p [] x m = absurd (Contains-nil x m)
 Contains-filter p (y ∷ xs) x m = go (p y) refl m (λ h. Contains-filter p xs x h)
   where
-    go : (b : Bool) → p y ≡ b → Contains (cond b (y ∷ filter p xs) (filter p xs)) x → (Contains (filter p xs) x → Contains xs x × (p x ≡ true)) → Contains (y ∷ xs) x × (p x ≡ true)
+    go : (b : Bool) → p y ≡ b → Contains (cond b (y ∷ filter p xs) (filter p xs)) x → (Contains (filter p xs) x → Contains xs x × (p x ≡ true))
+        → Contains (y ∷ xs) x × (p x ≡ true)
     go true e m again = elim (Contains-cases y (filter p xs) x m) [
       | inl h ↦ (subst (Contains (y ∷ xs)) h (Contains-head y xs), ap p (sym h) ∙ e)
       | inr h ↦ (Contains-later y xs x (again h).0, (again h).1)
@@ -57,14 +59,16 @@ pub AllPairs-tail : {X : Type 0} (R : X → X → Type 0) (x : X) (xs : List X) 
 AllPairs-tail R x xs h i j d a b = h (suc i) (suc j) d (omega arith) (omega arith)
 
 -- two lists in a row, of which each of the first is related to each of the second
-pub AllPairs-append : {X : Type 0} (R : X → X → Type 0) (xs ys : List X) → AllPairs R xs → AllPairs R ys → ((x y : X) → Contains xs x → Contains ys y → R x y) → AllPairs R (xs ++ ys)
+pub AllPairs-append : {X : Type 0} (R : X → X → Type 0) (xs ys : List X) → AllPairs R xs → AllPairs R ys → ((x y : X) → Contains xs x → Contains ys y → R x y)
+    → AllPairs R (xs ++ ys)
 AllPairs-append R [] ys p q h = q
 AllPairs-append R (x ∷ xs) ys p q h = AllPairs-cons R x (xs ++ ys)
     (All-of (R x) (xs ++ ys) (λ y m. elim (append_cases xs ys y m) [ inl k ↦ AllPairs-head R x xs p y k | inr k ↦ h x y (Contains-head x xs) k ]))
     (AllPairs-append R xs ys (AllPairs-tail R x xs p) q (λ z y m k. h z y (Contains-later x xs z m) k))
 
 -- what a function that keeps the relation makes of the members
-pub AllPairs-map : {X Y : Type 0} (R : X → X → Type 0) (Q : Y → Y → Type 0) (f : X → Y) → ((x y : X) → R x y → Q (f x) (f y)) → (xs : List X) → AllPairs R xs → AllPairs Q (map f xs)
+pub AllPairs-map : {X Y : Type 0} (R : X → X → Type 0) (Q : Y → Y → Type 0) (f : X → Y) → ((x y : X) → R x y → Q (f x) (f y)) → (xs : List X) → AllPairs R xs
+    → AllPairs Q (map f xs)
 AllPairs-map R Q f keeps [] p = λ i j d a b. absurd (omega arith)
 AllPairs-map R Q f keeps (x ∷ xs) p = AllPairs-cons Q (f x) (map f xs)
     (All-of (Q (f x)) (map f xs) (λ y m. let (z, k, e) = Contains-map_cases f xs y m in subst (Q (f x)) e (keeps x z (AllPairs-head R x xs p z k))))

@@ -1,5 +1,6 @@
 -- The clauses and cores of one open answer: what is true of every chosen repair, and what the answer leaves.
-use Rattle.std.proofs.Common.{◌≡◌, ◌≢◌, ℕ, ◌<◌, ◌≤◌, ◌+◌, ◌⊎◌, inl, inr, List, [], ◌∷◌, ◌++◌, length, Contains, Bool, true, false, not, eqb, ◌||◌, if◌then◌else◌, true≢false, refl, sym, subst, ap, ◌∙◌, arith}
+use Rattle.std.proofs.Common.{◌≡◌, ◌≢◌, ℕ, ◌<◌, ◌≤◌, ◌+◌, ◌⊎◌, inl, inr, List, [], ◌∷◌, ◌++◌, length, Contains, Bool, true, false, not, eqb, ◌||◌}
+use Rattle.std.proofs.Common.{if◌then◌else◌, true≢false, refl, sym, subst, ap, ◌∙◌, arith}
 use Rattle.std.specs.Prelude.{nat_lt}
 use Rattle.std.proofs.lemmas.Bool.{cases_Bool, cases_lt, ltb-true, eq-eqb, eqb-true}
 use Rattle.std.proofs.lemmas.List.Elements.{Contains-push, Contains-push_cases, Contains-append_left}
@@ -84,7 +85,11 @@ pub lacks : (v : ℕ) (clause : List ℕ) → not (has_variable v clause) ≡ tr
 lacks v [] e l m = absurd (Contains-nil l m)
 lacks v (x ∷ clause) e l m =
     let w = split (eqb (variable_of x) v) (has_variable v clause) e in
-    elim (Contains-cases x clause l m) [ inl h ↦ (λ s. true≢false (sym (eq-eqb (variable_of x) v (ap variable_of h ∙ s)) ∙ w.0)) | inr h ↦ lacks v clause w.1 l h ]
+    elim (Contains-cases x clause l m) [
+      | inl h ↦ (λ s. true≢false (sym (eq-eqb (variable_of x) v (ap variable_of h ∙ s)) ∙ w.0))
+      | inr h ↦
+          lacks v clause w.1 l h
+    ]
   where
     split : (a b : Bool) → not (a || b) ≡ true → (a ≡ false) × (not b ≡ true)
     split true b e = absurd (true≢false (sym e))
@@ -116,13 +121,15 @@ is_core _ = false
 module _ (input : Input) where
   -- some assignment reads a chosen repair; where the selector is false, the repair entails the tuple
   pub reading_exists : (before : List Line) → IsInPlace input before → (R : ℕ → Bool) → AreConsistent input.kb (In R)
-      → (v : ℕ → Bool) × Reads input before R v × (v (selector_of input.kb (asked before).candidate) ≡ false → FactsEntail input.kb (In R) (query_of input before) (asked before).tuple)
+      → (v : ℕ → Bool) × Reads input before R v × (v (selector_of input.kb (asked before).candidate) ≡ false
+      → FactsEntail input.kb (In R) (query_of input before) (asked before).tuple)
   reading_exists before w R c = go (misses_or_has R (asked before).causes)
     where
       there : (cause : List ℕ) → Contains (asked before).causes cause → Has R cause → FactsEntail input.kb (In R) (query_of input before) (asked before).tuple
       there cause m h = cause_entails input.kb (query_of input before) (asked before).tuple (asked before).causes w.causes_are cause m (In R) h
 
-      none : ((cause : List ℕ) → Contains (asked before).causes cause → Misses R cause) → ¬ FactsEntail input.kb (In R) (query_of input before) (asked before).tuple
+      none : ((cause : List ℕ) → Contains (asked before).causes cause → Misses R cause)
+          → ¬ FactsEntail input.kb (In R) (query_of input before) (asked before).tuple
       none miss e =
           let (cause, m, h) = entails_cause input.kb (query_of input before) (asked before).tuple (asked before).causes w.causes_are (In R) c e in
           let (i, k, f) = miss cause m in
@@ -132,7 +139,8 @@ module _ (input : Input) where
       selected b = reading_selector (length input.kb.facts) R b (asked before).candidate
 
       go : ((cause : List ℕ) → Contains (asked before).causes cause → Misses R cause) ⊎ ((cause : List ℕ) × Contains (asked before).causes cause × Has R cause)
-          → (v : ℕ → Bool) × Reads input before R v × (v (selector_of input.kb (asked before).candidate) ≡ false → FactsEntail input.kb (In R) (query_of input before) (asked before).tuple)
+          → (v : ℕ → Bool) × Reads input before R v × (v (selector_of input.kb (asked before).candidate) ≡ false
+          → FactsEntail input.kb (In R) (query_of input before) (asked before).tuple)
       go (inl miss) = (
         reading (length input.kb.facts) R true,
         record { facts = λ i l. reading_fact (length input.kb.facts) R true i l; selector = λ e. ((λ t. none miss), (λ k. selected true)) },
@@ -159,7 +167,8 @@ module _ (input : Input) where
       within = listed_within input.kb (query_of input before) (asked before).tuple (asked before).causes p.causes_are cause m
 
       entails : Has v cause → FactsEntail input.kb (In R) (query_of input before) (asked before).tuple
-      entails h = cause_entails input.kb (query_of input before) (asked before).tuple (asked before).causes p.causes_are cause m (In R) (λ i k. sym (w.facts i (within i k)) ∙ h i k)
+      entails h = cause_entails input.kb (query_of input before) (asked before).tuple (asked before).causes p.causes_are cause m (In R)
+          (λ i k. sym (w.facts i (within i k)) ∙ h i k)
 
       go : (v sel ≡ true) ⊎ (v sel ≡ false) → Has v cause ⊎ Misses v cause → Satisfies v (cause_clause sel cause)
       go (inr f) s = (absent sel, selector_in sel cause, absent_true v sel f)
@@ -167,8 +176,10 @@ module _ (input : Input) where
       go (inl t) (inl h) = absurd ((w.selector o).0 t (entails h))
 
   -- they are true where the selector is false, whatever the causes are
-  causes_passed : (a : Asked) (v : ℕ → Bool) → v (selector_of input.kb a.candidate) ≡ false → SatisfiesAll v (IsCauseClause (selector_of input.kb a.candidate) a.causes)
-  causes_passed a v f clause (cause, m, e) = subst (Satisfies v) (sym e) (absent (selector_of input.kb a.candidate), selector_in (selector_of input.kb a.candidate) cause, absent_true v (selector_of input.kb a.candidate) f)
+  causes_passed : (a : Asked) (v : ℕ → Bool) → v (selector_of input.kb a.candidate) ≡ false
+      → SatisfiesAll v (IsCauseClause (selector_of input.kb a.candidate) a.causes)
+  causes_passed a v f clause (cause, m, e) = subst (Satisfies v) (sym e)
+      (absent (selector_of input.kb a.candidate), selector_in (selector_of input.kb a.candidate) cause, absent_true v (selector_of input.kb a.candidate) f)
 
   -- an assignment that satisfies all that an open answer starts with: base clauses, clauses of causes, learned ones
   abbrev pub SatisfiesStart : List Line → (ℕ → Bool) → Type 0
@@ -191,10 +202,12 @@ module _ (input : Input) where
   learned_from (line.Learn number clause ∷ b) (r, rs) v w = added (learned_from b rs v w)
     where
       added : SatisfiesAll v (IsLearned input.kb b) → SatisfiesAll v (IsLearned input.kb (line.Learn number clause ∷ b))
-      added h c (n, m) = elim (Contains-push_cases (learned (length input.kb.facts) b) (record { number = number; clause = clause }) (record { number = n; clause = c }) m) [
-        | inl old ↦ h c (n, old)
-        | inr new ↦ subst (Satisfies v) (ap (λ (e : Learned). e.clause) new) (following_is_true (Live input.kb b) clause r.own.follows v (live_from b v w h))
-      ]
+      added h c (n, m) = elim (Contains-push_cases (learned (length input.kb.facts) b) (record { number = number; clause = clause })
+          (record { number = n; clause = c }) m) [
+            | inl old ↦ h c (n, old)
+            | inr new ↦ subst (Satisfies v) (ap (λ (e : Learned). e.clause) new)
+                (following_is_true (Live input.kb b) clause r.own.follows v (live_from b v w h))
+          ]
   learned_from (line.Head axioms budget facts keep repairs version ∷ b) (r, rs) v w = absurd r.own
   learned_from (line.Cq o query step ∷ b) (r, rs) v w = absurd r.own
   learned_from (line.Conflict facts rule member ∷ b) (r, rs) v w = absurd r.own
@@ -237,20 +250,27 @@ module _ (input : Input) where
   answer_open (line.End answers brave ar iar undecided ∷ b) (r, rs) = absurd r.own
 
   -- an assignment that agrees with a chosen repair on the facts satisfies the base clauses, and what the answer starts with
-  pub base_of : (mode : Repairs) (R v : ℕ → Bool) → IsChosen input.kb mode R → ((i : ℕ) → i < length input.kb.facts → v i ≡ R i) → SatisfiesAll v (IsBaseClause input.kb mode)
+  pub base_of : (mode : Repairs) (R v : ℕ → Bool) → IsChosen input.kb mode R → ((i : ℕ) → i < length input.kb.facts → v i ≡ R i)
+      → SatisfiesAll v (IsBaseClause input.kb mode)
   base_of mode R v c a = base_true input.kb mode v (agree_chosen input.kb mode R v a c)
 
-  held_at : (before : List Line) → IsRightAnswer input before → LearnedHold input (start_of before) → HoldInChosen input.kb (mode_of before) (IsLearned input.kb (start_of before))
+  held_at : (before : List Line) → IsRightAnswer input before → LearnedHold input (start_of before)
+      → HoldInChosen input.kb (mode_of before) (IsLearned input.kb (start_of before))
   held_at before r h = subst (λ m. HoldInChosen input.kb m (IsLearned input.kb (start_of before))) (start_mode before r) h
 
   -- a reading of a chosen repair satisfies what an answer in place starts with
   pub reading_starts : (before : List Line) → IsRightAnswer input before → IsInPlace input before → LearnedHold input (start_of before)
       → (R v : ℕ → Bool) → IsChosen input.kb (mode_of before) R → Reads input before R v → SatisfiesStart before v
-  reading_starts before r p h R v c w = (base_of (mode_of before) R v c w.facts, causes_true before (answer_open before r) p R v w, held_at before r h R v c w.facts)
+  reading_starts before r p h R v c w = (
+    base_of (mode_of before) R v c w.facts,
+    causes_true before (answer_open before r) p R v w,
+    held_at before r h R v c w.facts,
+  )
 
   -- so does, in place or not, the reading in which the selector is false
   pub passing_starts : (before : List Line) → IsRightAnswer input before → LearnedHold input (start_of before)
-      → (R v : ℕ → Bool) → IsChosen input.kb (mode_of before) R → ((i : ℕ) → i < length input.kb.facts → v i ≡ R i) → v (selector_of input.kb (asked before).candidate) ≡ false → SatisfiesStart before v
+      → (R v : ℕ → Bool) → IsChosen input.kb (mode_of before) R → ((i : ℕ) → i < length input.kb.facts → v i ≡ R i)
+      → v (selector_of input.kb (asked before).candidate) ≡ false → SatisfiesStart before v
   passing_starts before r h R v c a f = (base_of (mode_of before) R v c a, causes_passed (asked before) v f, held_at before r h R v c a)
 
   -- each live clause of an open answer is true of every chosen repair
@@ -262,18 +282,22 @@ module _ (input : Input) where
 
   -- the learned clauses without the selector are true of every chosen repair, in place or not
   pub left_hold : (before : List Line) → IsRightAnswer input before → LearnedHold input (start_of before)
-      → HoldInChosen input.kb (mode_of before) (λ clause. IsLearned input.kb before clause × (not (has_variable (selector_of input.kb (asked before).candidate) clause) ≡ true))
+      → HoldInChosen input.kb (mode_of before) (λ clause. IsLearned input.kb before clause
+      × (not (has_variable (selector_of input.kb (asked before).candidate) clause) ≡ true))
   left_hold before r h R v c a clause (m, k) =
       let own : ℕ = selector_of input.kb (asked before).candidate in
       let u : ℕ → Bool = passing own v in
-      let same : (i : ℕ) → i < length input.kb.facts → u i ≡ R i = λ i l. passing_other own v i (λ e. no_fact input.kb (asked before).candidate i l e) ∙ a i l in
+      let same : (i : ℕ) → i < length input.kb.facts → u i ≡ R i =
+      λ i l. passing_other own v i (λ e. no_fact input.kb (asked before).candidate i l e) ∙ a i l in
       let t = learned_from before r u (passing_starts before r h R u c same (passing_own own v)) clause m in
       (t.0, t.1, sym (passing_other own v (variable_of t.0) (lacks own clause k t.0 t.1)) ∙ t.2)
 
   pub answer_keeps : (before : List Line) → IsRightAnswer input before → LearnedHold input (start_of before)
-      → (brave ar iar : Verdict) (cores : List ℕ) (names : List (List ℕ)) (tuple : List ℕ) → LearnedHold input (line.Answer brave ar iar cores names tuple ∷ before)
+      → (brave ar iar : Verdict) (cores : List ℕ) (names : List (List ℕ)) (tuple : List ℕ)
+      → LearnedHold input (line.Answer brave ar iar cores names tuple ∷ before)
   answer_keeps before r h brave ar iar cores names tuple R v c a clause (n, m) =
-      let k = Contains-filter (λ x. not (has_variable (selector_of input.kb (asked before).candidate) x.clause)) (learned (length input.kb.facts) before) (record { number = n; clause = clause }) m in
+      let k = Contains-filter (λ x. not (has_variable (selector_of input.kb (asked before).candidate) x.clause)) (learned (length input.kb.facts) before)
+      (record { number = n; clause = clause }) m in
       left_hold before r h R v c a clause ((n, k.0), k.1)
 
   -- ---- cores
@@ -286,7 +310,8 @@ module _ (input : Input) where
   ]
 
   -- a right core line is one
-  core_more : (b : List Line) (number : ℕ) (kept dropped : List ℕ) → IsCore input.kb (mode_of b) (has kept) (has dropped) → CoresHold input b → CoresHold input (line.Core number kept dropped ∷ b)
+  core_more : (b : List Line) (number : ℕ) (kept dropped : List ℕ) → IsCore input.kb (mode_of b) (has kept) (has dropped) → CoresHold input b
+      → CoresHold input (line.Core number kept dropped ∷ b)
   core_more b number kept' dropped' core h n kept dropped m = elim (Contains-cases (line.Core number kept' dropped') b (line.Core n kept dropped) m) [
     | inl e ↦ (let same_kept : kept' ≡ kept = cc in
         let same_dropped : dropped' ≡ dropped = cc in
@@ -309,5 +334,6 @@ module _ (input : Input) where
   open_cores (line.Answer brave ar iar cores names tuple ∷ b) (r, rs) h = absurd r.own
   open_cores (line.End answers brave ar iar undecided ∷ b) (r, rs) h = absurd r.own
 
-  pub answer_cores : (before : List Line) → CoresHold input before → (brave ar iar : Verdict) (cores : List ℕ) (names : List (List ℕ)) (tuple : List ℕ) → CoresHold input (line.Answer brave ar iar cores names tuple ∷ before)
+  pub answer_cores : (before : List Line) → CoresHold input before → (brave ar iar : Verdict) (cores : List ℕ) (names : List (List ℕ)) (tuple : List ℕ)
+      → CoresHold input (line.Answer brave ar iar cores names tuple ∷ before)
   answer_cores before h brave ar iar cores names tuple = cores_more _ before refl refl h

@@ -1,5 +1,6 @@
 -- The live clauses as lists.
-use Rattle.std.proofs.Common.{◌≡◌, ℕ, ◌+◌, ◌<◌, ◌⊎◌, ◌↔◌, inl, inr, List, [], ◌∷◌, ◌++◌, length, map, Contains, Bool, true, false, true≢false, cond, refl, sym, subst, ap, ◌∙◌, arith}
+use Rattle.std.proofs.Common.{◌≡◌, ℕ, ◌+◌, ◌<◌, ◌⊎◌, ◌↔◌, inl, inr, List, [], ◌∷◌, ◌++◌, length, map, Contains, Bool, true, false, true≢false, cond, refl}
+use Rattle.std.proofs.Common.{sym, subst, ap, ◌∙◌, arith}
 use Rattle.std.proofs.lemmas.Bool.{cases_eq}
 use Rattle.std.proofs.lemmas.List.Elements.{Contains-append_left, Contains-append_right}
 use Rattle.cq_terms.specs.declared.facts.Pair.{Pair}
@@ -29,7 +30,8 @@ use Rattle.report_rules.specs.Clauses.{IsBaseClause}
 use Rattle.report_rules.specs.Order.{is_open}
 use Rattle.report_rules.specs.Tries.{asked}
 use Rattle.report_rules.specs.Live.{Learned, learned, IsOpenCauseClause, Live}
-use Rattle.report_laws.specs.LiveLists.{IsClauseOf, BaseClausesByFacts, BaseClausesAreListed, cause_clauses, open_clauses, learned_clauses, LiveAreListed, LiveListsTell, LawsOfLiveLists}
+use Rattle.report_laws.specs.LiveLists.{IsClauseOf, BaseClausesByFacts, BaseClausesAreListed, cause_clauses, open_clauses, learned_clauses, LiveAreListed}
+use Rattle.report_laws.specs.LiveLists.{LiveListsTell, LawsOfLiveLists}
 use Rattle.report_laws.proofs.BaseClauseLemmas.{means}
 use Rattle.report_laws.proofs.PriorityLemmas.{base_of_priority}
 use Rattle.report_laws.proofs.ConflictsExist.{conflict_or_not, priority_exists}
@@ -97,7 +99,8 @@ module _ (kb : Knowledge) (mode : Repairs) (p : Priority) (of : IsPriorityOf kb 
       below j (inl e) = omega arith
       below j (inr b) = let l = Conflict-within kb j i (Conflict-sym kb i j (((means kb mode p of).conflict i j).0 b.0)) in omega arith
 
-      made : (numbers : List ℕ) → IsAscending numbers → ((j : ℕ) → Contains numbers j ↔ ((j < length kb.facts + i + 1) × ((j ≡ i) ⊎ Blocks p i j))) → (clause : List ℕ) × IsBlockingClause p i clause
+      made : (numbers : List ℕ) → IsAscending numbers → ((j : ℕ) → Contains numbers j ↔ ((j < length kb.facts + i + 1) × ((j ≡ i) ⊎ Blocks p i j)))
+          → (clause : List ℕ) × IsBlockingClause p i clause
       made numbers up exact = (
         map present numbers,
         record {
@@ -138,7 +141,8 @@ module _ (kb : Knowledge) (mode : Repairs) (p : Priority) (of : IsPriorityOf kb 
   listed_all : Listed (λ (c : List ℕ). (fact : ℕ) × (fact < length kb.facts) × IsClauseOf p fact c)
   listed_all =
       let l = listed_below (length kb.facts) in
-      listed_like (λ (c : List ℕ). (fact : ℕ) × Contains l.0 fact × IsClauseOf p fact c) (λ (c : List ℕ). (fact : ℕ) × (fact < length kb.facts) × IsClauseOf p fact c)
+      listed_like (λ (c : List ℕ). (fact : ℕ) × Contains l.0 fact × IsClauseOf p fact c)
+      (λ (c : List ℕ). (fact : ℕ) × (fact < length kb.facts) × IsClauseOf p fact c)
       (λ c (f, m, w). (f, (l.1 f).0 m, w)) (λ c (f, m, w). (f, (l.1 f).1 m, w))
       (listed_over l.0 (IsClauseOf p) (λ i. listed_either (IsFactClause p i) (OfConflict i) (listed_fact i) (listed_conflicts i)))
 
@@ -161,13 +165,15 @@ live_listed kb b base are c = (to, from)
     open_to false o m = absurd (Contains-nil c m)
 
     open_from : (o : Bool) → is_open b ≡ o → IsOpenCauseClause kb b c → Contains (cond o (cause_clauses kb (asked b)) []) c
-    open_from true o (t, (cause, k, e)) = subst (Contains (cause_clauses kb (asked b))) (sym e) (Contains-map (cause_clause (selector_of kb (asked b).candidate)) (asked b).causes cause k)
+    open_from true o (t, (cause, k, e)) = subst (Contains (cause_clauses kb (asked b))) (sym e)
+        (Contains-map (cause_clause (selector_of kb (asked b).candidate)) (asked b).causes cause k)
     open_from false o (t, w) = absurd (true≢false (sym t ∙ o))
 
     to : Contains (base ++ open_clauses kb b ++ learned_clauses kb b) c → Live kb b c
     to m = elim (append_cases (base ++ open_clauses kb b) (learned_clauses kb b) c m) [
       | inl k ↦ elim (append_cases base (open_clauses kb b) c k) [ inl l ↦ inl ((are c).0 l) | inr l ↦ inr (inl (open_to (is_open b) refl l)) ]
-      | inr k ↦ (let (x, l, e) = Contains-map_cases (λ (y : Learned). y.clause) (learned (length kb.facts) b) c k in inr (inr (x.number, subst (Contains (learned (length kb.facts) b)) (same x e) l)))
+      | inr k ↦ (let (x, l, e) = Contains-map_cases (λ (y : Learned). y.clause) (learned (length kb.facts) b) c k in
+          inr (inr (x.number, subst (Contains (learned (length kb.facts) b)) (same x e) l)))
     ]
       where
         same : (x : Learned) → x.clause ≡ c → x ≡ learned_so x.number c
@@ -175,8 +181,10 @@ live_listed kb b base are c = (to, from)
 
     from : Live kb b c → Contains (base ++ open_clauses kb b ++ learned_clauses kb b) c
     from (inl w) = Contains-append_left (base ++ open_clauses kb b) (learned_clauses kb b) c (Contains-append_left base (open_clauses kb b) c ((are c).1 w))
-    from (inr (inl w)) = Contains-append_left (base ++ open_clauses kb b) (learned_clauses kb b) c (Contains-append_right base (open_clauses kb b) c (open_from (is_open b) refl w))
-    from (inr (inr (n, m))) = Contains-append_right (base ++ open_clauses kb b) (learned_clauses kb b) c (Contains-map (λ (y : Learned). y.clause) (learned (length kb.facts) b) (record { number = n; clause = c }) m)
+    from (inr (inl w)) = Contains-append_left (base ++ open_clauses kb b) (learned_clauses kb b) c
+        (Contains-append_right base (open_clauses kb b) c (open_from (is_open b) refl w))
+    from (inr (inr (n, m))) = Contains-append_right (base ++ open_clauses kb b) (learned_clauses kb b) c
+        (Contains-map (λ (y : Learned). y.clause) (learned (length kb.facts) b) (record { number = n; clause = c }) m)
 
 -- ---- refutations
 
@@ -187,8 +195,10 @@ same_refutes S T h L = (Refutes-more S T L L (λ c s. (h c).0 s) (λ l m. m), Re
 -- a clause follows where the opposites of its literals are refuted
 pub follows_by_opposites : (S : List ℕ → Type 0) (clause : List ℕ) → Refutes S (Contains (map opposite_of clause)) ↔ Follows S clause
 follows_by_opposites S clause = (
-  Refutes-more S S (Contains (map opposite_of clause)) (OppositesOf clause) (λ c s. s) (λ l m. let (k, h, e) = Contains-map_cases opposite_of clause l m in subst (Contains clause) (sym (opposite_of-opposite_of k) ∙ ap opposite_of e) h),
-  Refutes-more S S (OppositesOf clause) (Contains (map opposite_of clause)) (λ c s. s) (λ l m. subst (Contains (map opposite_of clause)) (opposite_of-opposite_of l) (Contains-map opposite_of clause (opposite_of l) m)),
+  Refutes-more S S (Contains (map opposite_of clause)) (OppositesOf clause) (λ c s. s)
+      (λ l m. let (k, h, e) = Contains-map_cases opposite_of clause l m in subst (Contains clause) (sym (opposite_of-opposite_of k) ∙ ap opposite_of e) h),
+  Refutes-more S S (OppositesOf clause) (Contains (map opposite_of clause)) (λ c s. s)
+      (λ l m. subst (Contains (map opposite_of clause)) (opposite_of-opposite_of l) (Contains-map opposite_of clause (opposite_of l) m)),
 )
 
 -- and they are contained in the same
@@ -202,7 +212,10 @@ pub live_tells : (kb : Knowledge) (b : List Line) (S : List ℕ → Type 0) → 
     × ((clause : List ℕ) → ContainsOneOf S clause ↔ ContainsOneOf (Live kb b) clause)
 live_tells kb b S h = (
   (λ assume. same_refutes S (Live kb b) h (Contains assume)),
-  (λ clause. ((λ r. (follows_by_opposites (Live kb b) clause).0 ((same_refutes S (Live kb b) h (Contains (map opposite_of clause))).0 r)), (λ f. (same_refutes S (Live kb b) h (Contains (map opposite_of clause))).1 ((follows_by_opposites (Live kb b) clause).1 f)))),
+  (λ clause. (
+    (λ r. (follows_by_opposites (Live kb b) clause).0 ((same_refutes S (Live kb b) h (Contains (map opposite_of clause))).0 r)),
+    (λ f. (same_refutes S (Live kb b) h (Contains (map opposite_of clause))).1 ((follows_by_opposites (Live kb b) clause).1 f)),
+  )),
   (λ clause. same_contained S (Live kb b) h clause),
 )
 

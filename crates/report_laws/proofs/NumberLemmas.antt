@@ -10,13 +10,15 @@ use Rattle.report_laws.specs.OpenAnswers.{HasNextNumber, CoresAreNumbered, Cores
 use Rattle.report_laws.proofs.LiveLemmas.{is_core}
 
 -- a core line with the next number
-core_numbered : (b : List Line) (number : ℕ) (kept' dropped' : List ℕ) → number ≡ count_cores b → CoresAreNumbered b → CoresAreNumbered (line.Core number kept' dropped' ∷ b)
+core_numbered : (b : List Line) (number : ℕ) (kept' dropped' : List ℕ) → number ≡ count_cores b → CoresAreNumbered b
+    → CoresAreNumbered (line.Core number kept' dropped' ∷ b)
 core_numbered b number kept' dropped' e h n kept dropped m = elim (Contains-cases (line.Core number kept' dropped') b (line.Core n kept dropped) m) [
   | inl s ↦ (let same : number ≡ n = cc in omega arith)
   | inr l ↦ (let k = h n kept dropped l in omega arith)
 ]
 
-core_unique : (b : List Line) (number : ℕ) (kept' dropped' : List ℕ) → number ≡ count_cores b → CoresAreNumbered b → CoresAreUnique b → CoresAreUnique (line.Core number kept' dropped' ∷ b)
+core_unique : (b : List Line) (number : ℕ) (kept' dropped' : List ℕ) → number ≡ count_cores b → CoresAreNumbered b → CoresAreUnique b
+    → CoresAreUnique (line.Core number kept' dropped' ∷ b)
 core_unique b number x y e h u n k d k' d' m m' = elim (Contains-cases (line.Core number x y) b (line.Core n k d) m) [
   | inl s ↦ elim (Contains-cases (line.Core number x y) b (line.Core n k' d') m') [
     | inl t ↦ (let a : x ≡ k = cc in let c : y ≡ d = cc in let a' : x ≡ k' = cc in let c' : y ≡ d' = cc in (sym a ∙ a', sym c ∙ c'))
@@ -29,7 +31,8 @@ core_unique b number x y e h u n k d k' d' m m' = elim (Contains-cases (line.Cor
 ]
 
 -- a line of another kind adds none
-others : (x : Line) (b : List Line) → is_core x ≡ false → count_cores (x ∷ b) ≡ count_cores b → CoresAreNumbered b → CoresAreUnique b → CoresAreNumbered (x ∷ b) × CoresAreUnique (x ∷ b)
+others : (x : Line) (b : List Line) → is_core x ≡ false → count_cores (x ∷ b) ≡ count_cores b → CoresAreNumbered b → CoresAreUnique b
+    → CoresAreNumbered (x ∷ b) × CoresAreUnique (x ∷ b)
 others x b f e h u = (
   (λ n kept dropped m. subst (λ c. n < c) (sym e) (h n kept dropped (older n kept dropped m))),
   (λ n k d k' d' m m'. u n k d k' d' (older n k d m) (older n k' d' m')),
@@ -66,5 +69,8 @@ next_number input b (line.Answer brave ar iar cores names tuple) r = tt
 next_number input b (line.End answers brave ar iar undecided) r = tt
 
 pub right_cores_numbered : (input : Input) (before : List Line) → AreRight input before → CoresAreNumbered before × CoresAreUnique before
-right_cores_numbered input [] r = ((λ n kept dropped m. absurd (Contains-nil (line.Core n kept dropped) m)), (λ n k d k' d' m m'. absurd (Contains-nil (line.Core n k d) m)))
+right_cores_numbered input [] r = (
+  (λ n kept dropped m. absurd (Contains-nil (line.Core n kept dropped) m)),
+  (λ n k d k' d' m m'. absurd (Contains-nil (line.Core n k d) m)),
+)
 right_cores_numbered input (x ∷ b) (r, rs) = let w = right_cores_numbered input b rs in cores_go_on b w.0 w.1 x (next_number input b x r)

@@ -71,13 +71,18 @@ starts_empty (line.End answers brave ar iar undecided ∷ b) e = absurd (cc)
 -- in an open answer after right lines the candidate is in place
 pub asked_right : (input : Input) (before : List Line) → AreRight input before → is_open before ≡ true → IsInPlace input before
 asked_right input (line.Ask candidate tuple causes members ∷ b) (r, rs) o = record {
-  entailed = let w = r.own.next in All-contains (FactsEntail input.kb Every (query_of input b)) _ tuple w.1.entailed (Contains-append_right _ (tuple ∷ w.0) tuple (Contains-head tuple w.0));
+  entailed = let w = r.own.next in All-contains (FactsEntail input.kb Every (query_of input b)) _ tuple w.1.entailed
+      (Contains-append_right _ (tuple ∷ w.0) tuple (Contains-head tuple w.0));
   causes_are = r.own.causes_are;
 }
-asked_right input (line.Try question assume ∷ b) (r, rs) o = let w = asked_right input b rs (ap is_answering r.order) in record { entailed = w.entailed; causes_are = w.causes_are }
-asked_right input (line.Learn number clause ∷ b) (r, rs) o = let w = asked_right input b rs (ap is_answering r.order) in record { entailed = w.entailed; causes_are = w.causes_are }
-asked_right input (line.Core number kept dropped ∷ b) (r, rs) o = let w = asked_right input b rs (ap is_answering r.order) in record { entailed = w.entailed; causes_are = w.causes_are }
-asked_right input (line.Done how core ∷ b) (r, rs) o = let w = asked_right input b rs (try_open (place_of b) r.order) in record { entailed = w.entailed; causes_are = w.causes_are }
+asked_right input (line.Try question assume ∷ b) (r, rs) o = let w = asked_right input b rs (ap is_answering r.order) in
+    record { entailed = w.entailed; causes_are = w.causes_are }
+asked_right input (line.Learn number clause ∷ b) (r, rs) o = let w = asked_right input b rs (ap is_answering r.order) in
+    record { entailed = w.entailed; causes_are = w.causes_are }
+asked_right input (line.Core number kept dropped ∷ b) (r, rs) o = let w = asked_right input b rs (ap is_answering r.order) in
+    record { entailed = w.entailed; causes_are = w.causes_are }
+asked_right input (line.Done how core ∷ b) (r, rs) o = let w = asked_right input b rs (try_open (place_of b) r.order) in
+    record { entailed = w.entailed; causes_are = w.causes_are }
 asked_right input [] r o = absurd (true≢false (sym o))
 asked_right input (line.Head axioms budget facts keep repairs version ∷ b) r o = absurd (true≢false (sym o))
 asked_right input (line.Cq origin query step ∷ b) r o = absurd (true≢false (sym o))

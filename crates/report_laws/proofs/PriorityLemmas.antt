@@ -14,13 +14,15 @@ use Rattle.report_laws.proofs.BaseClauseLemmas.{means, input_of_table, base_true
 use Rattle.report_laws.proofs.ConflictsExist.{priority_exists}
 
 -- two priorities of one input have the same blockers
-same_blocks : (kb : Knowledge) (mode : Repairs) (p p' : Priority) → IsPriorityOf kb mode p → IsPriorityOf kb mode p' → (f g : ℕ) → (g ≡ f) ⊎ Blocks p f g → (g ≡ f) ⊎ Blocks p' f g
+same_blocks : (kb : Knowledge) (mode : Repairs) (p p' : Priority) → IsPriorityOf kb mode p → IsPriorityOf kb mode p' → (f g : ℕ) → (g ≡ f) ⊎ Blocks p f g
+    → (g ≡ f) ⊎ Blocks p' f g
 same_blocks kb mode p p' of of' f g (inl e) = inl e
 same_blocks kb mode p p' of of' f g (inr (c, n)) =
     inr (((means kb mode p' of').conflict f g).1 (((means kb mode p of).conflict f g).0 c), λ b. n ((of.better f g).1 ((of'.better f g).0 b)))
 
 -- and the same base clauses
-same_base : (kb : Knowledge) (mode : Repairs) (p p' : Priority) → IsPriorityOf kb mode p → IsPriorityOf kb mode p' → (c : List ℕ) → over_priority.IsBaseClause p (AllFacts p) c → over_priority.IsBaseClause p' (AllFacts p') c
+same_base : (kb : Knowledge) (mode : Repairs) (p p' : Priority) → IsPriorityOf kb mode p → IsPriorityOf kb mode p' → (c : List ℕ)
+    → over_priority.IsBaseClause p (AllFacts p) c → over_priority.IsBaseClause p' (AllFacts p') c
 same_base kb mode p p' of of' c base = go base
   where
     fact : (i : ℕ) → i < p.facts → i < p'.facts
@@ -45,7 +47,8 @@ same_base kb mode p p' of of' c base = go base
     )
 
 -- the base clauses of the input are those of its priority
-pub base_of_priority : (kb : Knowledge) (mode : Repairs) (p : Priority) → IsPriorityOf kb mode p → (c : List ℕ) → IsBaseClause kb mode c ↔ over_priority.IsBaseClause p (AllFacts p) c
+pub base_of_priority : (kb : Knowledge) (mode : Repairs) (p : Priority) → IsPriorityOf kb mode p → (c : List ℕ) → IsBaseClause kb mode c
+    ↔ over_priority.IsBaseClause p (AllFacts p) c
 base_of_priority kb mode p of c = ((λ (p', of', base). same_base kb mode p' p of' of c base), (λ base. (p, of, base)))
 
 -- an assignment satisfies the base clauses exactly where its present facts are a chosen repair

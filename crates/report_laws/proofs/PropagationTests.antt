@@ -1,5 +1,6 @@
 -- Tests over lists that tell what unit propagation refutes, and what it leaves open; and pairs of a list by a test.
-use Rattle.std.proofs.Common.{◌≡◌, ℕ, ◌⊎◌, inl, inr, List, [], ◌∷◌, AllPairs, Contains, Bool, true, false, true≢false, not, ◌&&◌, ◌||◌, ◌==◌, eqb-true, eq-eqb, sym, subst, ◌∙◌, arith}
+use Rattle.std.proofs.Common.{◌≡◌, ℕ, ◌⊎◌, inl, inr, List, [], ◌∷◌, AllPairs, Contains, Bool, true, false, true≢false, not, ◌&&◌, ◌||◌, ◌==◌, eqb-true}
+use Rattle.std.proofs.Common.{eq-eqb, sym, subst, ◌∙◌, arith}
 use Rattle.std.specs.List.{list_any, list_all, AllByRecursion}
 use Rattle.std.specs.Str.{bytes_eq}
 use Rattle.std.proofs.lemmas.Bool.{cases_eq, or_cases}
@@ -33,7 +34,8 @@ abbrev pub all_pairs : {X : Type 0} → (X → X → Bool) → List X → Bool
 all_pairs r [] = true
 all_pairs r (x ∷ xs) = list_all (r x) xs && all_pairs r xs
 
-pub pairs_by_test : {X : Type 0} (r : X → X → Bool) (R : X → X → Type 0) → ((x y : X) → r x y ≡ true → R x y) → (xs : List X) → all_pairs r xs ≡ true → AllPairs R xs
+pub pairs_by_test : {X : Type 0} (r : X → X → Bool) (R : X → X → Type 0) → ((x y : X) → r x y ≡ true → R x y) → (xs : List X) → all_pairs r xs ≡ true
+    → AllPairs R xs
 pairs_by_test r R f [] t = λ i j d a b. absurd (omega arith)
 pairs_by_test r R f (x ∷ xs) t =
     let w = and_both (list_all (r x) xs) (all_pairs r xs) t in
@@ -72,7 +74,11 @@ forced known c l t = record { member = has_there c l w.0; others = others }
 
 chained : (clauses : List (List ℕ)) (given chain : List ℕ) → is_chain clauses given chain ≡ true → IsChain (Contains clauses) (Contains given) chain
 chained clauses given [] t = tt
-chained clauses given (l ∷ before) t = (elim (or_cases (has given l) (list_any (λ c. forces before c l) clauses) w.0) [ inl h ↦ inl (has_there given l h) | inr h ↦ inr (by h) ], chained clauses given before w.1)
+chained clauses given (l ∷ before) t = (
+  elim (or_cases (has given l) (list_any (λ c. forces before c l) clauses) w.0)
+      [ inl h ↦ inl (has_there given l h) | inr h ↦ inr (by h) ],
+  chained clauses given before w.1,
+)
   where
     w : ((has given l || list_any (λ c. forces before c l) clauses) ≡ true) × (is_chain clauses given before ≡ true)
     w = and_both (has given l || list_any (λ c. forces before c l) clauses) (is_chain clauses given before) t
@@ -102,7 +108,8 @@ closes clauses known = list_all (is_left known) known && list_all (rests known) 
 
 module _ (clauses : List (List ℕ)) (known : List ℕ) (t : closes clauses known ≡ true) where
   apart : (l : ℕ) → Contains known l → Contains known (opposite_of l) → ⊥
-  apart l m k = true≢false (sym (has_true known (opposite_of l) k) ∙ not_true (has known (opposite_of l)) (every (is_left known) known (and_both (list_all (is_left known) known) (list_all (rests known) clauses) t).0 l m))
+  apart l m k = true≢false (sym (has_true known (opposite_of l) k)
+      ∙ not_true (has known (opposite_of l)) (every (is_left known) known (and_both (list_all (is_left known) known) (list_all (rests known) clauses) t).0 l m))
 
   left : (l : ℕ) → is_left known l ≡ true → Contains known (opposite_of l) → ⊥
   left l e m = true≢false (sym (has_true known (opposite_of l) m) ∙ not_true (has known (opposite_of l)) e)
@@ -112,10 +119,11 @@ module _ (clauses : List (List ℕ)) (known : List ℕ) (t : closes clauses know
       ⊎ ((a : ℕ) × (b : ℕ) × Contains c a × Contains c b × (a ≡ b → ⊥) × (Contains known (opposite_of a) → ⊥) × (Contains known (opposite_of b) → ⊥))
 
   at_rest : (c : List ℕ) → Contains clauses c → Rests c
-  at_rest c m = elim (or_cases (list_any (has known) c) (list_any (λ a. list_any (λ b. not (a == b) && (is_left known a && is_left known b)) c) c) (every (rests known) clauses (and_both (list_all (is_left known) known) (list_all (rests known) clauses) t).1 c m)) [
-    | inl h ↦ (let (k, n, e) = passing (has known) c h in inl (k, n, has_there known k e))
-    | inr h ↦ (let (a, n, e) = passing (λ a. list_any (λ b. not (a == b) && (is_left known a && is_left known b)) c) c h in two a n e)
-  ]
+  at_rest c m = elim (or_cases (list_any (has known) c) (list_any (λ a. list_any (λ b. not (a == b) && (is_left known a && is_left known b)) c) c)
+      (every (rests known) clauses (and_both (list_all (is_left known) known) (list_all (rests known) clauses) t).1 c m)) [
+        | inl h ↦ (let (k, n, e) = passing (has known) c h in inl (k, n, has_there known k e))
+        | inr h ↦ (let (a, n, e) = passing (λ a. list_any (λ b. not (a == b) && (is_left known a && is_left known b)) c) c h in two a n e)
+      ]
     where
       two : (a : ℕ) → Contains c a → list_any (λ b. not (a == b) && (is_left known a && is_left known b)) c ≡ true → Rests c
       two a n e =
@@ -142,10 +150,14 @@ module _ (clauses : List (List ℕ)) (known : List ℕ) (t : closes clauses know
       none (inl (c, m, f)) = false_one c f (at_rest c m)
       none (inr (l, m, k)) = apart l m k
 
-pub open_by_test : (clauses : List (List ℕ)) (given known : List ℕ) → closes clauses known ≡ true → list_all (has known) given ≡ true → Refutes (Contains clauses) (Contains given) → ⊥
-open_by_test clauses given known t s = closed_not_refuted (Contains clauses) (Contains given) (Contains known) (closed_by_test clauses known t) (λ l m. has_there known l (every (has known) given s l m))
+pub open_by_test : (clauses : List (List ℕ)) (given known : List ℕ) → closes clauses known ≡ true → list_all (has known) given ≡ true
+    → Refutes (Contains clauses) (Contains given) → ⊥
+open_by_test clauses given known t s = closed_not_refuted (Contains clauses) (Contains given) (Contains known) (closed_by_test clauses known t)
+    (λ l m. has_there known l (every (has known) given s l m))
 
 -- ---- what contains no clause
 
-pub contains_none : (clauses : List (List ℕ)) (clause : List ℕ) → list_any (λ c. list_all (has clause) c) clauses ≡ false → ContainsOneOf (Contains clauses) clause → ⊥
-contains_none clauses clause f (c, m, w) = true≢false (sym (some_passes (λ c. list_all (has clause) c) clauses c m ((tells_all (has clause) (Contains clause) (tells_has clause) c).1 w)) ∙ f)
+pub contains_none : (clauses : List (List ℕ)) (clause : List ℕ) → list_any (λ c. list_all (has clause) c) clauses ≡ false
+    → ContainsOneOf (Contains clauses) clause → ⊥
+contains_none clauses clause f (c, m, w) = true≢false (sym (some_passes (λ c. list_all (has clause) c) clauses c m
+    ((tells_all (has clause) (Contains clause) (tells_has clause) c).1 w)) ∙ f)

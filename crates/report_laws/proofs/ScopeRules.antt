@@ -25,7 +25,10 @@ use Rattle.report_laws.proofs.LiveLemmas.{reading, reading_fact, reading_selecto
 decides : (scope : List ℕ) (S : List ℕ → Type 0) → Separates (has scope) S → (v : ℕ → Bool) → ((c : List ℕ) → S c → Satisfies v c) → ScopeDecides scope S
 decides scope S separated v satisfied = record {
   refutes = λ L inside. (alone (Contains L) inside, fewer (Contains L));
-  follows = λ clause inside. (alone (OppositesOf clause) (λ l m. sym (ap (has scope) (variable_of-opposite_of l)) ∙ inside (opposite_of l) m), fewer (OppositesOf clause));
+  follows = λ clause inside. (
+    alone (OppositesOf clause) (λ l m. sym (ap (has scope) (variable_of-opposite_of l)) ∙ inside (opposite_of l) m),
+    fewer (OppositesOf clause),
+  );
   contains = λ clause inside. (
     (λ (c, s, within). (c, (s, λ l m. inside l (within l m)), within)),
     (λ (c, s, within). (c, s.0, within)),
@@ -39,7 +42,8 @@ decides scope S separated v satisfied = record {
     fewer L r = Refutes-more (Inside (has scope) S) S L L (λ c s. s.0) (λ l m. m) r
 
 -- clauses between those of the scope and all say the same
-pub between_decides : (scope : List ℕ) (S T : List ℕ → Type 0) → ScopeDecides scope S → ((c : List ℕ) → T c → S c) → ((c : List ℕ) → S c → IsInside (has scope) c → T c) → SayTheSame scope S T × ScopeDecides scope T
+pub between_decides : (scope : List ℕ) (S T : List ℕ → Type 0) → ScopeDecides scope S → ((c : List ℕ) → T c → S c)
+    → ((c : List ℕ) → S c → IsInside (has scope) c → T c) → SayTheSame scope S T × ScopeDecides scope T
 between_decides scope S T d within has_all = (
   record {
     refutes = λ L inside. ((λ r. widen (Contains L) ((d.refutes L inside).0 r)), narrow (Contains L));
@@ -65,7 +69,8 @@ between_decides scope S T d within has_all = (
     fewer : (L : ℕ → Type 0) → Refutes (Inside (has scope) T) L → Refutes T L
     fewer L r = Refutes-more (Inside (has scope) T) T L L (λ c s. s.0) (λ l m. m) r
 
-pub scope_decides : (input : Input) (before : List Line) (scope : List ℕ) → IsRightAnswer input before → LearnedHold input (start_of before) → IsAcyclic input.kb (mode_of before)
+pub scope_decides : (input : Input) (before : List Line) (scope : List ℕ) → IsRightAnswer input before → LearnedHold input (start_of before)
+    → IsAcyclic input.kb (mode_of before)
     → Separates (has scope) (Live input.kb before) → ScopeDecides scope (Live input.kb before)
 scope_decides input before scope r h acyclic separated =
     let t = conflicts_told input.kb in
@@ -73,9 +78,11 @@ scope_decides input before scope r h acyclic separated =
     let n : ℕ = length input.kb.facts in
     let v : ℕ → Bool = reading n some.0 false in
     decides scope (Live input.kb before) separated v
-    (satisfies_live input before r v (passing_starts input before r h some.0 v some.1 (reading_fact n some.0 false) (reading_selector n some.0 false (asked before).candidate)))
+    (satisfies_live input before r v (passing_starts input before r h some.0 v some.1 (reading_fact n some.0 false)
+    (reading_selector n some.0 false (asked before).candidate)))
 
-pub rules_in_scope : (input : Input) (before : List Line) (scope : List ℕ) → ScopeDecides scope (Live input.kb before) → IsInside (has scope) (assumed before) → RulesInScope input before scope
+pub rules_in_scope : (input : Input) (before : List Line) (scope : List ℕ) → ScopeDecides scope (Live input.kb before) → IsInside (has scope) (assumed before)
+    → RulesInScope input before scope
 rules_in_scope input before scope d inside = record {
   learn = λ number clause w. record {
     counts = w.counts;

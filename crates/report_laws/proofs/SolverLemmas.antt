@@ -30,7 +30,8 @@ some_literal : (clause : List ℕ) → clause ≢ [] → 0 < length clause
 some_literal [] n = absurd (n refl)
 some_literal (l ∷ clause) n = omega arith
 
-module _ (input : Input) (before : List Line) (facts : List ℕ) (S : List ℕ → Type 0) (s : IsSolving input before facts S) (acyclic : IsAcyclic input.kb (mode_of before)) where
+module _ (input : Input) (before : List Line) (facts : List ℕ) (S : List ℕ → Type 0) (s : IsSolving input before facts S)
+    (acyclic : IsAcyclic input.kb (mode_of before)) where
   -- over the scope the clauses say what all live ones say, and those of the scope alone
   same : SayTheSame (scope_of input.kb (asked before) facts) (Live input.kb before) S × ScopeDecides (scope_of input.kb (asked before) facts) S
   same = between_decides (scope_of input.kb (asked before) facts) (Live input.kb before) S
@@ -52,20 +53,25 @@ module _ (input : Input) (before : List Line) (facts : List ℕ) (S : List ℕ �
     never_present c m k = selector_absent input before s.right s.apart c (s.live c m) k
 
     absent_only : Contains clause (present (selector_of input.kb (asked before).candidate)) → ⊥
-    absent_only m = let o = All-contains (OccursIn S) clause (present (selector_of input.kb (asked before).candidate)) w.learnable.occur m in never_present o.0 o.1 o.2
+    absent_only m = let o = All-contains (OccursIn S) clause (present (selector_of input.kb (asked before).candidate)) w.learnable.occur m in
+        never_present o.0 o.1 o.2
 
     -- without the selector it is apart
     keeps : KeepsTo input.kb (scope_of input.kb (asked before) facts) clause
     keeps = keeps_to input.kb (asked before) facts s.keeps.scope clause w.inside (λ free part closed.
-        w.learnable.joins_nothing (selector_of input.kb (asked before).candidate) (λ (c, m, k). never_present c m k) part (λ c m f. live_apart input before facts s.keeps c (s.live c m) f part closed) free)
+        w.learnable.joins_nothing (selector_of input.kb (asked before).candidate) (λ (c, m, k). never_present c m k) part
+        (λ c m f. live_apart input before facts s.keeps c (s.live c m) f part closed) free)
 
     units : (i : ℕ) → Contains facts i → HasUnits input.kb (mode_of before) S i
-    units i m l e base = s.loaded (l ∷ []) (inl base) (λ k h. inside_by (scope_of input.kb (asked before) facts) i k (Contains-append_left facts (selector_of input.kb (asked before).candidate ∷ []) i m) (ap variable_of (sym (only_one l k h)) ∙ e))
+    units i m l e base = s.loaded (l ∷ []) (inl base) (λ k h. inside_by (scope_of input.kb (asked before) facts) i k
+        (Contains-append_left facts (selector_of input.kb (asked before).candidate ∷ []) i m) (ap variable_of (sym (only_one l k h)) ∙ e))
 
     literals : All (MayLearn input.kb (asked before)) clause
-    literals = may_be_learned input.kb (mode_of before) (asked before) facts clause S s.causes_known s.components w.inside absent_only units w.learnable.undecided
+    literals = may_be_learned input.kb (mode_of before) (asked before) facts clause S s.causes_known s.components w.inside absent_only units
+        w.learnable.undecided
 
-    right : ¬ IsRefutedIn input before facts S → learned_for (question_of before) before < budget_of before → RightInside input before (line.Learn number clause)
+    right : ¬ IsRefutedIn input before facts S → learned_for (question_of before) before < budget_of before
+        → RightInside input before (line.Learn number clause)
     right open_still few = record {
       order = s.trying;
       own = record {
@@ -82,7 +88,8 @@ module _ (input : Input) (before : List Line) (facts : List ℕ) (S : List ℕ �
     }
 
     -- and a solver with this clause as well goes on
-    goes_on : RightInside input before (line.Learn number clause) → (T : List ℕ → Type 0) → ((c : List ℕ) → T c ↔ (S c ⊎ (c ≡ clause))) → IsSolving input (line.Learn number clause ∷ before) facts T
+    goes_on : RightInside input before (line.Learn number clause) → (T : List ℕ → Type 0) → ((c : List ℕ) → T c ↔ (S c ⊎ (c ≡ clause)))
+        → IsSolving input (line.Learn number clause ∷ before) facts T
     goes_on r T more = record {
       right = (r, s.right);
       trying = refl;
@@ -91,7 +98,15 @@ module _ (input : Input) (before : List Line) (facts : List ℕ) (S : List ℕ �
       causes_known = s.causes_known;
       components = record { ascending = s.components.ascending; exact = s.components.exact };
       keeps = scope_learns input.kb before facts s.keeps number clause keeps;
-      live = λ c m. elim ((more c).0 m) [ inl old ↦ older c (s.live c old) | inr new ↦ inr (inr (number, subst (λ (x : List ℕ). Contains (learned (length input.kb.facts) before ++ entry clause ∷ []) (entry x)) (sym new) (Contains-push (learned (length input.kb.facts) before) (entry clause)))) ];
+      live = λ c m. elim ((more c).0 m) [
+        | inl old ↦ older c (s.live c old)
+        | inr new ↦
+            inr (inr (
+              number,
+              subst (λ (x : List ℕ). Contains (learned (length input.kb.facts) before ++ entry clause ∷ []) (entry x)) (sym new)
+                  (Contains-push (learned (length input.kb.facts) before) (entry clause)),
+            ))
+      ];
       loaded = λ c l i. (more c).1 (newer c l i);
     }
       where
@@ -101,15 +116,21 @@ module _ (input : Input) (before : List Line) (facts : List ℕ) (S : List ℕ �
         older : (c : List ℕ) → Live input.kb before c → Live input.kb (line.Learn number clause ∷ before) c
         older c (inl base) = inl base
         older c (inr (inl (o, m))) = inr (inl (refl, m))
-        older c (inr (inr (n, m))) = inr (inr (n, Contains-append_left (learned (length input.kb.facts) before) (entry clause ∷ []) (record { number = n; clause = c }) m))
+        older c (inr (inr (n, m))) = inr (inr (
+          n,
+          Contains-append_left (learned (length input.kb.facts) before) (entry clause ∷ [])
+              (record { number = n; clause = c }) m,
+        ))
 
-        newer : (c : List ℕ) → Live input.kb (line.Learn number clause ∷ before) c → IsInside (has (scope_of input.kb (asked before) facts)) c → S c ⊎ (c ≡ clause)
+        newer : (c : List ℕ) → Live input.kb (line.Learn number clause ∷ before) c → IsInside (has (scope_of input.kb (asked before) facts)) c → S c
+            ⊎ (c ≡ clause)
         newer c (inl base) i = inl (s.loaded c (inl base) i)
         newer c (inr (inl (o, m))) i = inl (s.loaded c (inr (inl (answer_open input before s.right, m))) i)
-        newer c (inr (inr (n, m))) i = elim (Contains-push_cases (learned (length input.kb.facts) before) (entry clause) (record { number = n; clause = c }) m) [
-          | inl old ↦ inl (s.loaded c (inr (inr (n, old))) i)
-          | inr new ↦ inr (sym (ap (λ (e : Learned). e.clause) new))
-        ]
+        newer c (inr (inr (n, m))) i = elim (Contains-push_cases (learned (length input.kb.facts) before) (entry clause) (record { number = n; clause = c })
+            m) [
+              | inl old ↦ inl (s.loaded c (inr (inr (n, old))) i)
+              | inr new ↦ inr (sym (ap (λ (e : Learned). e.clause) new))
+            ]
 
   pub steps_right : StepsAreRight input before facts S
   steps_right = record {

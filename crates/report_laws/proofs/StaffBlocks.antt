@@ -18,7 +18,8 @@ use Rattle.report_laws.proofs.ListLemmas.{only_one}
 use Rattle.report_laws.proofs.StaffTable.{each_axiom}
 
 -- an axiom step takes Staff(t) to Prof(t), and nothing else
-staff_step : (a : ℕ) (t : Term) (x y : QAtom) (rule : Axiom) → Contains staff_register.axioms rule → IsAxiomStep rule x y → atom.Concept a t ≡ x → (a ≡ 1) × (y ≡ atom.Concept 0 t)
+staff_step : (a : ℕ) (t : Term) (x y : QAtom) (rule : Axiom) → Contains staff_register.axioms rule → IsAxiomStep rule x y → atom.Concept a t ≡ x → (a ≡ 1)
+    × (y ≡ atom.Concept 0 t)
 staff_step a t x y rule m s e = each_axiom (λ r. IsAxiomStep r x y → (a ≡ 1) × (y ≡ atom.Concept 0 t)) (λ w. go w.0 w.1 w.2) (λ w. absurd w) rule m s
   where
     go : (u : Term) → x ≡ atom.Concept 1 u → y ≡ atom.Concept 0 u → (a ≡ 1) × (y ≡ atom.Concept 0 t)
@@ -45,7 +46,8 @@ from_staff q (inr (i, zero, (p, (x, y, f, z, l, g, g', u, w), e))) = absurd (ome
 from_staff q (inr (i, suc j, (p, (x, y, f, z, l, g, g', u, w), e))) = absurd (none_past (atom.Concept 1 (Var 0)) j y g')
 
 from_prof : (q : Query) → IsSuccessor staff_register.axioms prof_query q → ⊥
-from_prof q (inl (zero, n, (rule, p, k, (x, y, g, s, f), e))) = let w = staff_step 0 (Var 0) x y rule (Contains-slice_get staff_register.axioms n rule k) s (one_some (atom.Concept 0 (Var 0)) x g) in let d = w.0 in omega arith
+from_prof q (inl (zero, n, (rule, p, k, (x, y, g, s, f), e))) = let w =
+    staff_step 0 (Var 0) x y rule (Contains-slice_get staff_register.axioms n rule k) s (one_some (atom.Concept 0 (Var 0)) x g) in let d = w.0 in omega arith
 from_prof q (inl (suc i, n, (rule, p, k, (x, y, g, s, f), e))) = none_past (atom.Concept 0 (Var 0)) i x g
 from_prof q (inr (i, zero, (p, (x, y, f, z, l, g, g', u, w), e))) = omega arith
 from_prof q (inr (i, suc j, (p, (x, y, f, z, l, g, g', u, w), e))) = none_past (atom.Concept 0 (Var 0)) j y g'
@@ -60,21 +62,28 @@ query_closed p q m s = elim (Contains-cases staff_query (prof_query ∷ []) p m)
 from_both : (q : Query) → IsSuccessor staff_register.axioms staff_and_student q → Contains (staff_and_student ∷ prof_and_student ∷ []) q
 from_both q (inl (zero, n, (rule, p, k, (x, y, g, s, f), e))) =
     let w = staff_step 1 (Var 0) x y rule (Contains-slice_get staff_register.axioms n rule k) s (one_some (atom.Concept 1 (Var 0)) x g) in
-    let same : p ≡ record { head = []; body = atom.Concept 0 (Var 0) ∷ atom.Concept 2 (Var 0) ∷ [] } = f ∙ ap (λ (a : QAtom). record { head = []; body = a ∷ atom.Concept 2 (Var 0) ∷ [] }) w.1 in
+    let same : p ≡ record { head = []; body = atom.Concept 0 (Var 0) ∷ atom.Concept 2 (Var 0) ∷ [] } =
+    f ∙ ap (λ (a : QAtom). record { head = []; body = a ∷ atom.Concept 2 (Var 0) ∷ [] }) w.1 in
     Contains-later staff_and_student (prof_and_student ∷ []) q (Contains-one prof_and_student q (e ∙ ap normal same))
-from_both q (inl (suc zero, n, (rule, p, k, (x, y, g, s, f), e))) = let w = staff_step 2 (Var 0) x y rule (Contains-slice_get staff_register.axioms n rule k) s (one_some (atom.Concept 2 (Var 0)) x g) in let d = w.0 in absurd (omega arith)
+from_both q (inl (suc zero, n, (rule, p, k, (x, y, g, s, f), e))) = let w =
+    staff_step 2 (Var 0) x y rule (Contains-slice_get staff_register.axioms n rule k) s (one_some (atom.Concept 2 (Var 0)) x g) in let d = w.0 in
+    absurd (omega arith)
 from_both q (inl (suc (suc i), n, (rule, p, k, (x, y, g, s, f), e))) = absurd (cc)
 from_both q (inr (i, zero, (p, (x, y, f, z, l, g, g', u, w), e))) = absurd (omega arith)
-from_both q (inr (zero, suc zero, (p, (x, y, f, z, l, g, g', u, w), e))) = absurd (apart 1 2 (Var 0) (Var 0) (λ d. omega arith) x y f z (one_some (atom.Concept 1 (Var 0)) x g) (one_some (atom.Concept 2 (Var 0)) y g') u)
+from_both q (inr (zero, suc zero, (p, (x, y, f, z, l, g, g', u, w), e))) =
+    absurd (apart 1 2 (Var 0) (Var 0) (λ d. omega arith) x y f z (one_some (atom.Concept 1 (Var 0)) x g) (one_some (atom.Concept 2 (Var 0)) y g') u)
 from_both q (inr (suc i, suc zero, (p, (x, y, f, z, l, g, g', u, w), e))) = absurd (omega arith)
 from_both q (inr (i, suc (suc j), (p, (x, y, f, z, l, g, g', u, w), e))) = absurd (cc)
 
 from_neither : (q : Query) → IsSuccessor staff_register.axioms prof_and_student q → ⊥
-from_neither q (inl (zero, n, (rule, p, k, (x, y, g, s, f), e))) = let w = staff_step 0 (Var 0) x y rule (Contains-slice_get staff_register.axioms n rule k) s (one_some (atom.Concept 0 (Var 0)) x g) in let d = w.0 in omega arith
-from_neither q (inl (suc zero, n, (rule, p, k, (x, y, g, s, f), e))) = let w = staff_step 2 (Var 0) x y rule (Contains-slice_get staff_register.axioms n rule k) s (one_some (atom.Concept 2 (Var 0)) x g) in let d = w.0 in omega arith
+from_neither q (inl (zero, n, (rule, p, k, (x, y, g, s, f), e))) = let w =
+    staff_step 0 (Var 0) x y rule (Contains-slice_get staff_register.axioms n rule k) s (one_some (atom.Concept 0 (Var 0)) x g) in let d = w.0 in omega arith
+from_neither q (inl (suc zero, n, (rule, p, k, (x, y, g, s, f), e))) = let w =
+    staff_step 2 (Var 0) x y rule (Contains-slice_get staff_register.axioms n rule k) s (one_some (atom.Concept 2 (Var 0)) x g) in let d = w.0 in omega arith
 from_neither q (inl (suc (suc i), n, (rule, p, k, (x, y, g, s, f), e))) = cc
 from_neither q (inr (i, zero, (p, (x, y, f, z, l, g, g', u, w), e))) = omega arith
-from_neither q (inr (zero, suc zero, (p, (x, y, f, z, l, g, g', u, w), e))) = apart 0 2 (Var 0) (Var 0) (λ d. omega arith) x y f z (one_some (atom.Concept 0 (Var 0)) x g) (one_some (atom.Concept 2 (Var 0)) y g') u
+from_neither q (inr (zero, suc zero, (p, (x, y, f, z, l, g, g', u, w), e))) =
+    apart 0 2 (Var 0) (Var 0) (λ d. omega arith) x y f z (one_some (atom.Concept 0 (Var 0)) x g) (one_some (atom.Concept 2 (Var 0)) y g') u
 from_neither q (inr (suc i, suc zero, (p, (x, y, f, z, l, g, g', u, w), e))) = omega arith
 from_neither q (inr (i, suc (suc j), (p, (x, y, f, z, l, g, g', u, w), e))) = cc
 

@@ -26,7 +26,14 @@ use Rattle.report_laws.proofs.StaffLines.{about, l1, l2, l3, l4, l5, b1, b2, b3,
 -- ---- the head and the blocks
 
 pub r1 : Right about [] l1
-r1 = record { order = refl; query_left = tt; closed = λ o e. absurd (cc); complete = tt; own = record { axioms_are = refl; facts_are = refl; version_is = refl } }
+r1 = record {
+  order = refl;
+  query_left = tt;
+  closed = λ o e. absurd (cc);
+  complete = tt;
+  own =
+      record { axioms_are = refl; facts_are = refl; version_is = refl };
+}
 
 pub r2 : Right about b1 l2
 r2 = record { order = refl; query_left = λ e. absurd (cc); closed = λ o e. absurd (cc); complete = λ e. absurd (cc); own = refl }
@@ -38,14 +45,29 @@ r3 = record {
   closed = λ o e. inl (cc);
   complete = λ e. absurd (cc);
   own = (
-    (staff_query, refl, (prof_is_staff, record { head = Var 0 ∷ []; body = atom.Concept 0 (Var 0) ∷ [] }, refl, (atom.Concept 1 (Var 0), atom.Concept 0 (Var 0), refl, (Var 0, refl, refl), refl), refl)),
+    (
+      staff_query,
+      refl,
+      (
+        prof_is_staff,
+        record { head = Var 0 ∷ []; body = atom.Concept 0 (Var 0) ∷ [] },
+        refl,
+        (atom.Concept 1 (Var 0), atom.Concept 0 (Var 0), refl, (Var 0, refl, refl), refl),
+        refl,
+      ),
+    ),
     λ m. let h = ap (λ (q : Query). q.body) (only_one staff_query prof_query m) in absurd (cc),
   );
 }
 
 pub r4 : Right about b3 l4
 r4 = record {
-  order = inr (omega arith, (student_is_not_staff, staff_and_student, refl, refl), λ i l h. let e : i ≡ 0 = omega arith in subst (λ k. ¬ IsNegativeAt staff_register.axioms k) (sym e) first_is_positive);
+  order = inr (
+    omega arith,
+    (student_is_not_staff, staff_and_student, refl, refl),
+    λ i l h. let e : i ≡ 0 = omega arith in
+        subst (λ k. ¬ IsNegativeAt staff_register.axioms k) (sym e) first_is_positive,
+  );
   query_left = tt;
   closed = λ o e. inr (let h : origin.Query ≡ o = cc in subst (λ k. IsClosedBlock staff_register.axioms (block_of k b3)) h query_closed);
   complete = tt;
@@ -59,7 +81,17 @@ r5 = record {
   closed = λ o e. inl (cc);
   complete = tt;
   own = (
-    (staff_and_student, refl, (prof_is_staff, record { head = []; body = atom.Concept 0 (Var 0) ∷ atom.Concept 2 (Var 0) ∷ [] }, refl, (atom.Concept 1 (Var 0), atom.Concept 0 (Var 0), refl, (Var 0, refl, refl), refl), refl)),
+    (
+      staff_and_student,
+      refl,
+      (
+        prof_is_staff,
+        record { head = []; body = atom.Concept 0 (Var 0) ∷ atom.Concept 2 (Var 0) ∷ [] },
+        refl,
+        (atom.Concept 1 (Var 0), atom.Concept 0 (Var 0), refl, (Var 0, refl, refl), refl),
+        refl,
+      ),
+    ),
     λ m. let h = ap (λ (q : Query). q.body) (only_one staff_and_student prof_and_student m) in absurd (cc),
   );
 }
@@ -78,15 +110,30 @@ both_facts = record {
   ascending = both_ascend;
   match = (
     fact.Concept 0 0 ∷ fact.Concept 2 0 ∷ [],
-    ((λ i. 0), tt, ((Contains-head (fact.Concept 0 0) (fact.Concept 2 0 ∷ []), (Named 0, refl, refl)), ((Contains-later (fact.Concept 0 0) (fact.Concept 2 0 ∷ []) (fact.Concept 2 0) (Contains-head (fact.Concept 2 0) []), (Named 0, refl, refl)), tt))),
+    (
+      (λ i. 0),
+      tt,
+      (
+        (Contains-head (fact.Concept 0 0) (fact.Concept 2 0 ∷ []), (Named 0, refl, refl)),
+        ((Contains-later (fact.Concept 0 0) (fact.Concept 2 0 ∷ []) (fact.Concept 2 0) (Contains-head (fact.Concept 2 0) []), (Named 0, refl, refl)), tt),
+      ),
+    ),
     λ i. (to i, λ h. from i h.0 h.2),
   );
 }
   where
     to : (i : ℕ) → Contains (0 ∷ 1 ∷ []) i → (f : Fact) × Contains (fact.Concept 0 0 ∷ fact.Concept 2 0 ∷ []) f × (slice_get staff_register.facts i ≡ Some f)
     to i m = elim (Contains-cases 0 (1 ∷ []) i m) [
-      | inl e ↦ (fact.Concept 0 0, Contains-head (fact.Concept 0 0) (fact.Concept 2 0 ∷ []), subst (λ k. slice_get staff_register.facts k ≡ Some (fact.Concept 0 0)) e refl)
-      | inr n ↦ (fact.Concept 2 0, Contains-later (fact.Concept 0 0) (fact.Concept 2 0 ∷ []) (fact.Concept 2 0) (Contains-head (fact.Concept 2 0) []), subst (λ k. slice_get staff_register.facts k ≡ Some (fact.Concept 2 0)) (only_one 1 i n) refl)
+      | inl e ↦ (
+        fact.Concept 0 0,
+        Contains-head (fact.Concept 0 0) (fact.Concept 2 0 ∷ []),
+        subst (λ k. slice_get staff_register.facts k ≡ Some (fact.Concept 0 0)) e refl,
+      )
+      | inr n ↦ (
+        fact.Concept 2 0,
+        Contains-later (fact.Concept 0 0) (fact.Concept 2 0 ∷ []) (fact.Concept 2 0) (Contains-head (fact.Concept 2 0) []),
+        subst (λ k. slice_get staff_register.facts k ≡ Some (fact.Concept 2 0)) (only_one 1 i n) refl,
+      )
     ]
 
     from : (i : ℕ) (f : Fact) → slice_get staff_register.facts i ≡ Some f → Contains (0 ∷ 1 ∷ []) i
@@ -106,7 +153,11 @@ first_fact = record {
 }
   where
     to : (i : ℕ) → Contains (0 ∷ []) i → (f : Fact) × Contains (fact.Concept 0 0 ∷ []) f × (slice_get staff_register.facts i ≡ Some f)
-    to i m = (fact.Concept 0 0, Contains-head (fact.Concept 0 0) [], subst (λ k. slice_get staff_register.facts k ≡ Some (fact.Concept 0 0)) (only_one 0 i m) refl)
+    to i m = (
+      fact.Concept 0 0,
+      Contains-head (fact.Concept 0 0) [],
+      subst (λ k. slice_get staff_register.facts k ≡ Some (fact.Concept 0 0)) (only_one 0 i m) refl,
+    )
 
     from : (i : ℕ) (f : Fact) → fact.Concept 0 0 ≡ f → slice_get staff_register.facts i ≡ Some f → Contains (0 ∷ []) i
     from zero f d e = Contains-head 0 []

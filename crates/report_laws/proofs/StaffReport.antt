@@ -84,7 +84,14 @@ module _ (clash : Conflict staff_register 0 1) where
   }
 
   r10 : Right about b9 l10
-  r10 = record { order = inr refl; query_left = tt; closed = λ o e. absurd (cc); complete = tt; own = (0 ∷ [], 1 ∷ [], Contains-head l9 b8, (0 ∷ [], refl, λ i m. m)) }
+  r10 = record {
+    order = inr refl;
+    query_left = tt;
+    closed = λ o e. absurd (cc);
+    complete = tt;
+    own =
+        (0 ∷ [], 1 ∷ [], Contains-head l9 b8, (0 ∷ [], refl, λ i m. m));
+  }
 
   -- what the first core line drops
   abbrev DropsOne : Line → Type 0
@@ -92,7 +99,8 @@ module _ (clash : Conflict staff_register 0 1) where
   DropsOne _ = Unit {0}
 
   one_dropped : (n : ℕ) (kept dropped : List ℕ) → Contains b10 (line.Core n kept dropped) → 1 ∷ [] ≡ dropped
-  one_dropped n kept dropped m = All-contains DropsOne b10 (line.Core n kept dropped) (All-from_recursion DropsOne b10 (tt, (refl, (tt, (tt, (tt, (tt, (tt, (tt, (tt, (tt, tt))))))))))) m
+  one_dropped n kept dropped m = All-contains DropsOne b10 (line.Core n kept dropped)
+      (All-from_recursion DropsOne b10 (tt, (refl, (tt, (tt, (tt, (tt, (tt, (tt, (tt, (tt, tt))))))))))) m
 
   not_met : (dropped : List ℕ) → 1 ∷ [] ≡ dropped → Meets (0 ∷ []) dropped → ⊥
   not_met dropped e (i, m, k) =
@@ -110,7 +118,8 @@ module _ (clash : Conflict staff_register 0 1) where
   }
     where
       open11 : IsSettled staff_register b10 [] question.Iar → ⊥
-      open11 (inl (cause, m, each)) = elim (each 0 (subst (λ c. Contains c 0) (only_one (0 ∷ []) cause m) (Contains-head 0 []))) [ inl (a, b, c) ↦ (cc) | inr e ↦ e ]
+      open11 (inl (cause, m, each)) = elim (each 0 (subst (λ c. Contains c 0) (only_one (0 ∷ []) cause m) (Contains-head 0 [])))
+          [ inl (a, b, c) ↦ (cc) | inr e ↦ e ]
       open11 (inr (inl each)) = let (n, kept, dropped, named, m, x) = each (0 ∷ []) zero_there in not_met dropped (one_dropped n kept dropped m) x
       open11 (inr (inr (inl (n, kept, dropped, named, m, each)))) = not_met dropped (one_dropped n kept dropped m) (each (0 ∷ []) zero_there)
       open11 (inr (inr (inr h))) = elim (h (0 ∷ []) zero_there) [ inl (a, b, c) ↦ (cc) | inr e ↦ e ]
@@ -140,7 +149,14 @@ module _ (clash : Conflict staff_register 0 1) where
   }
 
   r13 : Right about b12 l13
-  r13 = record { order = inr refl; query_left = tt; closed = λ o e. absurd (cc); complete = tt; own = (1 ∷ [], 0 ∷ [], Contains-head l12 b11, (0, refl, Contains-head 0 [])) }
+  r13 = record {
+    order = inr refl;
+    query_left = tt;
+    closed = λ o e. absurd (cc);
+    complete = tt;
+    own =
+        (1 ∷ [], 0 ∷ [], Contains-head l12 b11, (0, refl, Contains-head 0 []));
+  }
 
   core_line_zero : Contains b13 l9
   core_line_zero = Contains-later l13 b12 l9 (Contains-later l12 b11 l9 (Contains-later l11 b10 l9 (Contains-later l10 b9 l9 (Contains-head l9 b8))))
@@ -161,7 +177,8 @@ module _ (clash : Conflict staff_register 0 1) where
       same_tuple = refl;
       texts = (refl, tt);
       ascending = both_ascend;
-      earlier = All-from_recursion (λ n. (kept : List ℕ) × (dropped : List ℕ) × Contains b13 (line.Core n kept dropped)) (0 ∷ 1 ∷ []) ((0 ∷ [], 1 ∷ [], core_line_zero), ((1 ∷ [], 0 ∷ [], core_line_one), tt));
+      earlier = All-from_recursion (λ n. (kept : List ℕ) × (dropped : List ℕ) × Contains b13 (line.Core n kept dropped)) (0 ∷ 1 ∷ [])
+          ((0 ∷ [], 1 ∷ [], core_line_zero), ((1 ∷ [], 0 ∷ [], core_line_one), tt));
       complete = named;
       brave_is = inl (0, 0 ∷ [], 1 ∷ [], inr (Contains-head 0 (1 ∷ [])), core_line_zero, (0 ∷ [], zero_there, λ l m. m));
       ar_is = inl (1, 1 ∷ [], 0 ∷ [], inl (inl refl), core_line_one, drops_zero);
@@ -188,7 +205,18 @@ module _ (clash : Conflict staff_register 0 1) where
   -- a block of the query alone isn't closed
   not_closed : IsClosedBlock staff_register.axioms (staff_query ∷ []) → ⊥
   not_closed c =
-      let s : IsSuccessor staff_register.axioms staff_query prof_query = inl (0, 0, (prof_is_staff, record { head = Var 0 ∷ []; body = atom.Concept 0 (Var 0) ∷ [] }, refl, (atom.Concept 1 (Var 0), atom.Concept 0 (Var 0), refl, (Var 0, refl, refl), refl), refl)) in
+      let s : IsSuccessor staff_register.axioms staff_query prof_query =
+      inl (
+        0,
+        0,
+        (
+          prof_is_staff,
+          record { head = Var 0 ∷ []; body = atom.Concept 0 (Var 0) ∷ [] },
+          refl,
+          (atom.Concept 1 (Var 0), atom.Concept 0 (Var 0), refl, (Var 0, refl, refl), refl),
+          refl,
+        ),
+      ) in
       let h = ap (λ (q : Query). q.body) (only_one staff_query prof_query (c staff_query prof_query (Contains-head staff_query []) s)) in
       cc
 
@@ -206,9 +234,107 @@ module _ (clash : Conflict staff_register 0 1) where
   pub staff_reports : StaffReports
   staff_reports = record {
     accepted = record { right = (r15, (r14, (r13, (r12, (r11, (r10, (r9, (r8, (r7, (r6, (r5, (r4, (r3, (r2, (r1, tt))))))))))))))); ended = refl };
-    core = λ rest. inr (r1, inr (r2, inr (r3, inr (r4, inr (r5, inr (r6, inr (r7, inr (r8, inl (inr ((refl, tt), inr ((λ o e. absurd (cc)), inr (tt, (refl, λ w. nothing_dropped clash w.core)))), refl)))))))));
-    closed = λ rest. inr (r1, inr (r2, inl (inr ((r4.order, tt), inl (refl, λ c. elim (c origin.Query refl) [ inl e ↦ (cc) | inr closed ↦ not_closed closed ])), refl)));
-    answer = λ rest. inr (r1, inr (r2, inr (r3, inr (r4, inr (r5, inr (r6, inr (r7, inr (r8, inr (r9, inr (r10, inr (r11, inr (r12, inr (r13, inl (inr ((refl, tt), inr ((λ o e. absurd (cc)), inr (tt, (refl, λ w. not_each w.ar_is)))), refl))))))))))))));
-    missing = inr (r1, inr (r2, inr (r3, inr (r4, inr (r5, inr (r6, inr (r7, inr (r8, inr (r9, inr (r10, inr (r11, inr (r12, inr (r13, inr (r14, ((λ e. (cc)), refl, refl)))))))))))))));
-    torn = λ rest. inr (r1, inr (r2, inr (r3, inr (r4, inr (r5, inr (r6, inr (r7, inr (r8, inr (r9, inr (r10, inr (r11, inr (r12, inr (r13, inr (r14, (refl, refl)))))))))))))));
+    core = λ rest. inr (
+      r1,
+      inr (
+        r2,
+        inr (
+          r3,
+          inr (
+            r4,
+            inr (
+              r5,
+              inr
+                  (r6, inr (r7, inr (r8, inl (inr ((refl, tt), inr ((λ o e. absurd (cc)), inr (tt, (refl, λ w. nothing_dropped clash w.core)))), refl)))),
+            ),
+          ),
+        ),
+      ),
+    );
+    closed = λ rest. inr (
+      r1,
+      inr (
+        r2,
+        inl (
+          inr (
+            (r4.order, tt),
+            inl (refl, λ c. elim (c origin.Query refl) [ inl e ↦ (cc) | inr closed ↦ not_closed closed ]),
+          ),
+          refl,
+        ),
+      ),
+    );
+    answer = λ rest. inr (
+      r1,
+      inr (
+        r2,
+        inr (
+          r3,
+          inr (
+            r4,
+            inr (
+              r5,
+              inr (
+                r6,
+                inr (
+                  r7,
+                  inr (
+                    r8,
+                    inr (
+                      r9,
+                      inr (
+                        r10,
+                        inr (
+                          r11,
+                          inr (
+                            r12,
+                            inr (r13, inl (inr ((refl, tt), inr ((λ o e. absurd (cc)), inr (tt, (refl, λ w. not_each w.ar_is)))), refl)),
+                          ),
+                        ),
+                      ),
+                    ),
+                  ),
+                ),
+              ),
+            ),
+          ),
+        ),
+      ),
+    );
+    missing = inr (
+      r1,
+      inr (
+        r2,
+        inr (
+          r3,
+          inr (
+            r4,
+            inr (
+              r5,
+              inr (
+                r6,
+                inr (r7, inr (r8, inr (r9, inr (r10, inr (r11, inr (r12, inr (r13, inr (r14, ((λ e. (cc)), refl, refl))))))))),
+              ),
+            ),
+          ),
+        ),
+      ),
+    );
+    torn = λ rest. inr (
+      r1,
+      inr (
+        r2,
+        inr (
+          r3,
+          inr (
+            r4,
+            inr (
+              r5,
+              inr
+                  (r6, inr (r7, inr (r8, inr (r9, inr (r10, inr (r11, inr (r12, inr (r13, inr (r14, (refl, refl)))))))))),
+            ),
+          ),
+        ),
+      ),
+    );
   }

@@ -78,7 +78,21 @@ student_chase = InStage-keeps staff_register.axioms (facts_in staff_register (On
 
 -- a set with Prof(ann) entails that ann is in Staff
 staff_entailed : (S : ℕ → Type 0) → S 0 → FactsEntail staff_register S staff_query (0 ∷ [])
-staff_entailed S s = (1, ((λ i. Named 0), (refl, tt), ((ConceptAtom 1 (Named 0), inr (ConceptAtom 0 (Named 0), (fact.Concept 0 0, (0, s, refl), refl), (prof_is_staff, has_prof, (Named 0, refl, refl))), (Named 0, refl, refl)), tt)))
+staff_entailed S s = (
+  1,
+  (
+    (λ i. Named 0),
+    (refl, tt),
+    (
+      (
+        ConceptAtom 1 (Named 0),
+        inr (ConceptAtom 0 (Named 0), (fact.Concept 0 0, (0, s, refl), refl), (prof_is_staff, has_prof, (Named 0, refl, refl))),
+        (Named 0, refl, refl),
+      ),
+      tt,
+    ),
+  ),
+)
 
 only_ann : (tuple : List ℕ) → FactsEntail staff_register Every staff_query tuple → 0 ∷ [] ≡ tuple
 only_ann [] (k, (v, h, b)) = absurd h
@@ -102,7 +116,8 @@ not_by_student (k, (v, h, ((x, s, (t, b, e)), u))) = let d = student_chase k x s
 
 -- a set without Prof(ann) has nothing but Student(ann)
 without_prof : (S : ℕ → Type 0) → (S 0 → ⊥) → FactsEntail staff_register S staff_query (0 ∷ []) → ⊥
-without_prof S n e = not_by_student (Entails-mono staff_register.axioms (facts_in staff_register S) (facts_in staff_register (Only 1)) (λ f (i, s, at). (i, one i s f at, at)) staff_query (0 ∷ []) e)
+without_prof S n e = not_by_student (Entails-mono staff_register.axioms (facts_in staff_register S) (facts_in staff_register (Only 1))
+    (λ f (i, s, at). (i, one i s f at, at)) staff_query (0 ∷ []) e)
   where
     one : (i : ℕ) → S i → (f : Fact) → slice_get staff_register.facts i ≡ Some f → i ≡ 1
     one zero s f at = absurd (n s)
@@ -150,7 +165,9 @@ module _ (clash : Conflict staff_register 0 1) where
   }
 
   cause_is : (cause : List ℕ) → IsAscending cause → IsCause staff_register staff_query (0 ∷ []) (Contains cause) → 0 ∷ [] ≡ cause
-  cause_is cause up w = shape cause up zero_in (λ one. clash.together (AreConsistent-mono staff_register (Both 0 1) (Contains cause) (λ l. elim [ inl e ↦ subst (Contains cause) (sym e) zero_in | inr e ↦ subst (Contains cause) (sym e) one ]) w.consistent))
+  cause_is cause up w = shape cause up zero_in (λ one. clash.together
+      (AreConsistent-mono staff_register (Both 0 1) (Contains cause)
+      (λ l. elim [ inl e ↦ subst (Contains cause) (sym e) zero_in | inr e ↦ subst (Contains cause) (sym e) one ]) w.consistent))
       (λ i m. cause_within staff_register staff_query (0 ∷ []) cause w i m)
     where
       zero_in : Contains cause 0
@@ -171,24 +188,34 @@ module _ (clash : Conflict staff_register 0 1) where
 
   pub causes : AreCauses staff_register staff_query (0 ∷ []) ((0 ∷ []) ∷ [])
   causes = record {
-    each = All-from_recursion (λ c. IsAscending c × IsCause staff_register staff_query (0 ∷ []) (Contains c)) ((0 ∷ []) ∷ []) (((λ i j d a b. absurd (no_pairs i j a b)), is_cause), tt);
+    each = All-from_recursion (λ c. IsAscending c × IsCause staff_register staff_query (0 ∷ []) (Contains c)) ((0 ∷ []) ∷ [])
+        (((λ i j d a b. absurd (no_pairs i j a b)), is_cause), tt);
     complete = λ c up w. Contains-one (0 ∷ []) c (sym (cause_is c up w));
     ascending = λ i j d a b. absurd (no_pairs i j a b);
   }
 
   -- one of the two facts kept, and the other dropped
-  one_core : (a b : ℕ) → a < 2 → AreConsistent staff_register (Only a) → Conflict staff_register b a → ((j : ℕ) → j < 2 → Conflict staff_register a j → j ≡ b) → IsCore staff_register mode.Pareto (has (a ∷ [])) (has (b ∷ []))
+  one_core : (a b : ℕ) → a < 2 → AreConsistent staff_register (Only a) → Conflict staff_register b a → ((j : ℕ) → j < 2 → Conflict staff_register a j → j ≡ b)
+      → IsCore staff_register mode.Pareto (has (a ∷ [])) (has (b ∷ []))
   one_core a b al alone c other = record {
     consistent = AreConsistent-mono staff_register (In (has (a ∷ []))) (Only a) (λ i t. sym (only_one a i (has_there (a ∷ []) i t))) alone;
-    drops = λ i j il jl k w. has_true (b ∷ []) j (Contains-one b j (other j jl (subst (λ z. Conflict staff_register z j) (sym (only_one a i (has_there (a ∷ []) i k))) w)));
-    blocked = λ j jl d. inr (a, al, has_true (a ∷ []) a (Contains-head a []), subst (λ z. Conflict staff_register z a) (only_one b j (has_there (b ∷ []) j d)) c, no_better j a);
+    drops = λ i j il jl k w. has_true (b ∷ []) j (Contains-one b j
+        (other j jl (subst (λ z. Conflict staff_register z j) (sym (only_one a i (has_there (a ∷ []) i k))) w)));
+    blocked = λ j jl d. inr (
+      a,
+      al,
+      has_true (a ∷ []) a (Contains-head a []),
+      subst (λ z. Conflict staff_register z a) (only_one b j (has_there (b ∷ []) j d)) c,
+      no_better j a,
+    );
   }
     where
       no_better : (i j : ℕ) → ¬ IsBetter staff_register mode.Pareto i j
       no_better i j b = Contains-nil _ b.listed
 
   pub core_zero : IsCore staff_register mode.Pareto (has (0 ∷ [])) (has (1 ∷ []))
-  core_zero = one_core 0 1 (omega arith) clash.left (Conflict-sym staff_register 0 1 clash) (below_two (λ j. Conflict staff_register 0 j → j ≡ 1) (λ c. absurd (c.different refl)) (λ c. refl))
+  core_zero = one_core 0 1 (omega arith) clash.left (Conflict-sym staff_register 0 1 clash)
+      (below_two (λ j. Conflict staff_register 0 j → j ≡ 1) (λ c. absurd (c.different refl)) (λ c. refl))
 
   pub core_one : IsCore staff_register mode.Pareto (has (1 ∷ [])) (has (0 ∷ []))
   core_one = one_core 1 0 (omega arith) clash.right clash (below_two (λ j. Conflict staff_register 1 j → j ≡ 0) (λ c. refl) (λ c. absurd (c.different refl)))

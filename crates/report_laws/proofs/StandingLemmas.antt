@@ -1,5 +1,6 @@
 -- What is kept of the lines so far.
-use Rattle.std.proofs.Common.{◌≡◌, ℕ, zero, suc, ◌+◌, ◌⊎◌, ◌↔◌, inl, inr, List, [], ◌∷◌, ◌++◌, length, filter, Contains, true, false, cond, not, Option, Some, None, slice_get, refl, sym, subst, ap, ◌∙◌, arith, eq-eqb, eqb}
+use Rattle.std.proofs.Common.{◌≡◌, ℕ, zero, suc, ◌+◌, ◌⊎◌, ◌↔◌, inl, inr, List, [], ◌∷◌, ◌++◌, length, filter, Contains, true, false, cond, not, Option, Some}
+use Rattle.std.proofs.Common.{None, slice_get, refl, sym, subst, ap, ◌∙◌, arith, eq-eqb, eqb}
 use Rattle.std.proofs.lemmas.Bool.{cases_eq, ne_eqb}
 use Rattle.std.proofs.lemmas.List.{length-append, append-nil, append_assoc}
 use Rattle.std.specs.Prelude.{reverse}
@@ -21,7 +22,9 @@ use Rattle.report_rules.specs.Tries.{Tried, Ended, NamesCore, question_of, assum
 use Rattle.report_rules.specs.Accepted.{AreRight}
 use Rattle.report_laws.specs.Laws.{tuple_of, tuples_of}
 use Rattle.report_laws.proofs.ListLemmas.{reverse-cons}
-use Rattle.report_laws.specs.Standing.{Block, with_query, blocks_of, members_at, Core, cores_of, EndedTry, ended_of, named_of, one_number, count_conflicts, count_all_answers, LinesMoveOn, BlocksAreListed, EndedAreListed, TriedHaveEnded, NamedAreListed, CoresAreListed, CoresAreCounted, LawsOfStanding}
+use Rattle.report_laws.specs.Standing.{Block, with_query, blocks_of, members_at, Core, cores_of, EndedTry, ended_of, named_of, one_number, count_conflicts}
+use Rattle.report_laws.specs.Standing.{count_all_answers, LinesMoveOn, BlocksAreListed, EndedAreListed, TriedHaveEnded, NamedAreListed, CoresAreListed}
+use Rattle.report_laws.specs.Standing.{CoresAreCounted, LawsOfStanding}
 
 -- ---- one more line
 
@@ -50,7 +53,8 @@ same_or_not (origin.Negative i) (origin.Negative j) = elim (cases_eq i j) [
   | inr n ↦ inr (ne_eqb i j n, λ e. let same : i ≡ j = cc e in n same)
 ]
 
-at_with : (blocks : List Block) (o o' : Origin) (q : Query) → members_at (with_query blocks o q) o' ≡ cond (same_origin o' o) (members_at blocks o' ++ q ∷ []) (members_at blocks o')
+at_with : (blocks : List Block) (o o' : Origin) (q : Query) → members_at (with_query blocks o q) o'
+    ≡ cond (same_origin o' o) (members_at blocks o' ++ q ∷ []) (members_at blocks o')
 at_with [] o o' q = refl
 at_with (b ∷ blocks) o o' q = by (same_or_not o b.origin) (same_or_not o' b.origin) (same_or_not o' o) (at_with blocks o o' q)
   where
@@ -77,7 +81,8 @@ at_end (b ∷ blocks) o = go b.origin o (at_end blocks o)
     kept = filter (λ c. not (is_query c.origin)) blocks
 
     go : (p : Origin) (o : Origin) → members_at (filter (λ c. not (is_query c.origin)) blocks) o ≡ cond (is_query o) [] (members_at blocks o)
-        → members_at (cond (not (is_query p)) (record { origin = p; members = b.members } ∷ filter (λ c. not (is_query c.origin)) blocks) (filter (λ c. not (is_query c.origin)) blocks)) o
+        → members_at (cond (not (is_query p)) (record { origin = p; members = b.members } ∷ filter (λ c. not (is_query c.origin)) blocks)
+        (filter (λ c. not (is_query c.origin)) blocks)) o
         ≡ cond (is_query o) [] (cond (same_origin o p) b.members (members_at blocks o))
     go origin.Query origin.Query again = again
     go origin.Query (origin.Negative i) again = again
@@ -111,14 +116,17 @@ ended_listed (line.Done how core ∷ b) q a h = (to (ended_listed b q a h), from
     last : EndedTry
     last = ended_so (question_of b) (assumed b) how
 
-    to : Ended q a h b ↔ Contains (ended_of b) (ended_so q a h) → ((question_of b ≡ q) × (assumed b ≡ a) × (how ≡ h)) ⊎ Ended q a h b → Contains (ended_of b ++ ended_so (question_of b) (assumed b) how ∷ []) (ended_so q a h)
-    to again (inl (x, y, z)) = subst (Contains (ended_of b ++ ended_so (question_of b) (assumed b) how ∷ [])) same (Contains-push (ended_of b) (ended_so (question_of b) (assumed b) how))
+    to : Ended q a h b ↔ Contains (ended_of b) (ended_so q a h) → ((question_of b ≡ q) × (assumed b ≡ a) × (how ≡ h)) ⊎ Ended q a h b
+        → Contains (ended_of b ++ ended_so (question_of b) (assumed b) how ∷ []) (ended_so q a h)
+    to again (inl (x, y, z)) = subst (Contains (ended_of b ++ ended_so (question_of b) (assumed b) how ∷ [])) same
+        (Contains-push (ended_of b) (ended_so (question_of b) (assumed b) how))
       where
         same : ended_so (question_of b) (assumed b) how ≡ ended_so q a h
         same = ap (λ (p : Question). ended_so p (assumed b) how) x ∙ ap (λ (xs : List ℕ). ended_so q xs how) y ∙ ap (λ (g : How). ended_so q a g) z
     to again (inr w) = Contains-append_left (ended_of b) (ended_so (question_of b) (assumed b) how ∷ []) (ended_so q a h) (again.0 w)
 
-    from : Ended q a h b ↔ Contains (ended_of b) (ended_so q a h) → Contains (ended_of b ++ ended_so (question_of b) (assumed b) how ∷ []) (ended_so q a h) → ((question_of b ≡ q) × (assumed b ≡ a) × (how ≡ h)) ⊎ Ended q a h b
+    from : Ended q a h b ↔ Contains (ended_of b) (ended_so q a h) → Contains (ended_of b ++ ended_so (question_of b) (assumed b) how ∷ []) (ended_so q a h)
+        → ((question_of b ≡ q) × (assumed b ≡ a) × (how ≡ h)) ⊎ Ended q a h b
     from again m = elim (Contains-push_cases (ended_of b) (ended_so (question_of b) (assumed b) how) (ended_so q a h) m) [
       | inl k ↦ inr (again.1 k)
       | inr e ↦ inl (ap (λ (t : EndedTry). t.question) e, ap (λ (t : EndedTry). t.assume) e, ap (λ (t : EndedTry). t.how) e)
@@ -144,7 +152,11 @@ named_listed (line.Done how core ∷ b) n = go core (named_listed b n)
       (λ m. elim (append_cases (named_of b) [] n m) [ inl k ↦ inr (again.1 k) | inr k ↦ absurd (Contains-nil n k) ]),
     )
     go (Some m) again = (
-      elim [ inl e ↦ subst (Contains (named_of b ++ m ∷ [])) (one m e) (Contains-push (named_of b) m) | inr w ↦ Contains-append_left (named_of b) (m ∷ []) n (again.0 w) ],
+      elim [
+        | inl e ↦ subst (Contains (named_of b ++ m ∷ [])) (one m e) (Contains-push (named_of b) m)
+        | inr w ↦
+            Contains-append_left (named_of b) (m ∷ []) n (again.0 w)
+      ],
       (λ k. elim (Contains-push_cases (named_of b) m n k) [ inl l ↦ inr (again.1 l) | inr e ↦ inl (ap Some e) ]),
     )
       where
@@ -175,7 +187,12 @@ mutual
     where
       to : Tried q a b ↔ (AsksNow b q a ⊎ HasEnded b q a) → Tried q a b → HasEnded (line.Done how core ∷ b) q a
       to again w = elim (again.0 w) [
-        | inl x ↦ (how, subst (Contains (ended_of b ++ ended_so (question_of b) (assumed b) how ∷ [])) (ap (λ (p : Question). ended_so p (assumed b) how) x.0 ∙ ap (λ (xs : List ℕ). ended_so q xs how) x.1) (Contains-push (ended_of b) (ended_so (question_of b) (assumed b) how)))
+        | inl x ↦ (
+          how,
+          subst (Contains (ended_of b ++ ended_so (question_of b) (assumed b) how ∷ []))
+              (ap (λ (p : Question). ended_so p (assumed b) how) x.0 ∙ ap (λ (xs : List ℕ). ended_so q xs how) x.1)
+              (Contains-push (ended_of b) (ended_so (question_of b) (assumed b) how)),
+        )
         | inr x ↦ (x.0, Contains-append_left (ended_of b) (ended_so (question_of b) (assumed b) how ∷ []) (ended_so q a x.0) x.1)
       ]
 
@@ -195,7 +212,8 @@ mutual
   tried_between input (line.End answers brave ar iar undecided ∷ b) r e q a = absurd (cc)
   tried_between input [] r e q a = absurd (cc)
 
-  tried_within : (input : Input) (b : List Line) → AreRight input b → (place_of b ≡ InTry) ⊎ (place_of b ≡ AfterCore) → (q : Question) (a : List ℕ) → Tried q a b ↔ (AsksNow b q a ⊎ HasEnded b q a)
+  tried_within : (input : Input) (b : List Line) → AreRight input b → (place_of b ≡ InTry) ⊎ (place_of b ≡ AfterCore) → (q : Question) (a : List ℕ)
+      → Tried q a b ↔ (AsksNow b q a ⊎ HasEnded b q a)
   tried_within input (line.Try question assume ∷ b) (r, rs) e q a = (to (tried_between input b rs r.order q a), from (tried_between input b rs r.order q a))
     where
       to : Tried q a b ↔ HasEnded b q a → ((question ≡ q) × (assume ≡ a)) ⊎ Tried q a b → ((question ≡ q) × (assume ≡ a)) ⊎ HasEnded b q a
@@ -244,7 +262,8 @@ core_so k d = record { kept = k; dropped = d }
 
 pub cores_counted : CoresAreCounted
 cores_counted [] = refl
-cores_counted (line.Core number kept dropped ∷ b) = length-append (cores_of b) (record { kept = kept; dropped = dropped } ∷ []) ∙ (ap (λ (n : ℕ). n + 1) (cores_counted b) ∙ omega arith)
+cores_counted (line.Core number kept dropped ∷ b) = length-append (cores_of b) (record { kept = kept; dropped = dropped } ∷ [])
+    ∙ (ap (λ (n : ℕ). n + 1) (cores_counted b) ∙ omega arith)
 cores_counted (line.Head axioms budget facts keep repairs version ∷ b) = cores_counted b
 cores_counted (line.Cq o query step ∷ b) = cores_counted b
 cores_counted (line.Conflict facts rule member ∷ b) = cores_counted b
@@ -290,12 +309,15 @@ tuples_more [] l = append-nil (tuple_of l)
 tuples_more (x ∷ xs) l = ap (λ (ts : List (List ℕ)). tuple_of x ++ ts) (tuples_more xs l) ∙ sym (append_assoc (tuple_of x) (tuples_of xs) (tuple_of l))
 
 tuples_next : (l : Line) (b : List Line) → length (tuples_of (reverse (l ∷ b))) ≡ length (tuples_of (reverse b)) + length (tuple_of l)
-tuples_next l b = ap (λ (ls : List Line). length (tuples_of ls)) (reverse-cons l b) ∙ (ap length (tuples_more (reverse b) l) ∙ length-append (tuples_of (reverse b)) (tuple_of l))
+tuples_next l b = ap (λ (ls : List Line). length (tuples_of ls)) (reverse-cons l b)
+    ∙ (ap length (tuples_more (reverse b) l) ∙ length-append (tuples_of (reverse b)) (tuple_of l))
 
 pub all_counted : (b : List Line) → count_all_answers b ≡ length (tuples_of (reverse b))
 all_counted [] = refl
-all_counted (line.Answer brave ar iar cores names tuple ∷ b) = ap suc (all_counted b) ∙ (omega arith ∙ sym (tuples_next (line.Answer brave ar iar cores names tuple) b))
-all_counted (line.Head axioms budget facts keep repairs version ∷ b) = all_counted b ∙ (omega arith ∙ sym (tuples_next (line.Head axioms budget facts keep repairs version) b))
+all_counted (line.Answer brave ar iar cores names tuple ∷ b) =
+    ap suc (all_counted b) ∙ (omega arith ∙ sym (tuples_next (line.Answer brave ar iar cores names tuple) b))
+all_counted (line.Head axioms budget facts keep repairs version ∷ b) =
+    all_counted b ∙ (omega arith ∙ sym (tuples_next (line.Head axioms budget facts keep repairs version) b))
 all_counted (line.Cq o query step ∷ b) = all_counted b ∙ (omega arith ∙ sym (tuples_next (line.Cq o query step) b))
 all_counted (line.Conflict facts rule member ∷ b) = all_counted b ∙ (omega arith ∙ sym (tuples_next (line.Conflict facts rule member) b))
 all_counted (line.Ask candidate tuple causes members ∷ b) = all_counted b ∙ (omega arith ∙ sym (tuples_next (line.Ask candidate tuple causes members) b))
@@ -322,7 +344,8 @@ cores_listed input (line.Core number kept dropped ∷ b) (r, rs) n k d = (to (co
     at : number ≡ length (cores_of b)
     at = r.own.counts ∙ sym (cores_counted b)
 
-    to : Contains b (line.Core n k d) ↔ (slice_get (cores_of b) n ≡ Some (record { kept = k; dropped = d })) → Contains (line.Core number kept dropped ∷ b) (line.Core n k d)
+    to : Contains b (line.Core n k d) ↔ (slice_get (cores_of b) n ≡ Some (record { kept = k; dropped = d }))
+        → Contains (line.Core number kept dropped ∷ b) (line.Core n k d)
         → slice_get (cores_of b ++ record { kept = kept; dropped = dropped } ∷ []) n ≡ Some (record { kept = k; dropped = d })
     to again m = elim (Contains-cases (line.Core number kept dropped) b (line.Core n k d) m) [
       | inl e ↦ (let x : number ≡ n = cc e in let y : kept ≡ k = cc e in let z : dropped ≡ d = cc e in
@@ -335,24 +358,41 @@ cores_listed input (line.Core number kept dropped ∷ b) (r, rs) n k d = (to (co
         both y z = ap (λ (ks : List ℕ). Some (core_so ks dropped)) y ∙ ap (λ (ds : List ℕ). Some (core_so k ds)) z
 
     from : Contains b (line.Core n k d) ↔ (slice_get (cores_of b) n ≡ Some (record { kept = k; dropped = d }))
-        → slice_get (cores_of b ++ record { kept = kept; dropped = dropped } ∷ []) n ≡ Some (record { kept = k; dropped = d }) → Contains (line.Core number kept dropped ∷ b) (line.Core n k d)
+        → slice_get (cores_of b ++ record { kept = kept; dropped = dropped } ∷ []) n ≡ Some (record { kept = k; dropped = d })
+        → Contains (line.Core number kept dropped ∷ b) (line.Core n k d)
     from again e = elim (get_cases (cores_of b) (record { kept = kept; dropped = dropped }) n (record { kept = k; dropped = d }) e) [
       | inl h ↦ Contains-later (line.Core number kept dropped) b (line.Core n k d) (again.1 h)
-      | inr w ↦ subst (Contains (line.Core number kept dropped ∷ b)) (same (at ∙ sym w.0) (ap (λ (c : Core). c.kept) w.1) (ap (λ (c : Core). c.dropped) w.1)) (Contains-head (line.Core number kept dropped) b)
+      | inr w ↦ subst (Contains (line.Core number kept dropped ∷ b)) (same (at ∙ sym w.0) (ap (λ (c : Core). c.kept) w.1) (ap (λ (c : Core). c.dropped) w.1))
+          (Contains-head (line.Core number kept dropped) b)
     ]
       where
         same : number ≡ n → kept ≡ k → dropped ≡ d → line.Core number kept dropped ≡ line.Core n k d
         same x y z = ap (λ (i : ℕ). line.Core i kept dropped) x ∙ ap (λ (ks : List ℕ). line.Core n ks dropped) y ∙ ap (λ (ds : List ℕ). line.Core n k ds) z
-cores_listed input (line.Head axioms budget facts keep repairs version ∷ b) (r, rs) n k d = other_line (line.Head axioms budget facts keep repairs version) b n k d (λ e. cc e) (cores_listed input b rs n k d)
+cores_listed input (line.Head axioms budget facts keep repairs version ∷ b) (r, rs) n k d =
+    other_line (line.Head axioms budget facts keep repairs version) b n k d (λ e. cc e) (cores_listed input b rs n k d)
 cores_listed input (line.Cq o query step ∷ b) (r, rs) n k d = other_line (line.Cq o query step) b n k d (λ e. cc e) (cores_listed input b rs n k d)
-cores_listed input (line.Conflict facts rule member ∷ b) (r, rs) n k d = other_line (line.Conflict facts rule member) b n k d (λ e. cc e) (cores_listed input b rs n k d)
-cores_listed input (line.Ask candidate tuple causes members ∷ b) (r, rs) n k d = other_line (line.Ask candidate tuple causes members) b n k d (λ e. cc e) (cores_listed input b rs n k d)
+cores_listed input (line.Conflict facts rule member ∷ b) (r, rs) n k d =
+    other_line (line.Conflict facts rule member) b n k d (λ e. cc e) (cores_listed input b rs n k d)
+cores_listed input (line.Ask candidate tuple causes members ∷ b) (r, rs) n k d =
+    other_line (line.Ask candidate tuple causes members) b n k d (λ e. cc e) (cores_listed input b rs n k d)
 cores_listed input (line.Try question assume ∷ b) (r, rs) n k d = other_line (line.Try question assume) b n k d (λ e. cc e) (cores_listed input b rs n k d)
 cores_listed input (line.Learn number clause ∷ b) (r, rs) n k d = other_line (line.Learn number clause) b n k d (λ e. cc e) (cores_listed input b rs n k d)
 cores_listed input (line.Done how core ∷ b) (r, rs) n k d = other_line (line.Done how core) b n k d (λ e. cc e) (cores_listed input b rs n k d)
 cores_listed input (line.Forget clauses ∷ b) (r, rs) n k d = other_line (line.Forget clauses) b n k d (λ e. cc e) (cores_listed input b rs n k d)
-cores_listed input (line.Answer brave ar iar cores names tuple ∷ b) (r, rs) n k d = other_line (line.Answer brave ar iar cores names tuple) b n k d (λ e. cc e) (cores_listed input b rs n k d)
-cores_listed input (line.End answers brave ar iar undecided ∷ b) (r, rs) n k d = other_line (line.End answers brave ar iar undecided) b n k d (λ e. cc e) (cores_listed input b rs n k d)
+cores_listed input (line.Answer brave ar iar cores names tuple ∷ b) (r, rs) n k d =
+    other_line (line.Answer brave ar iar cores names tuple) b n k d (λ e. cc e) (cores_listed input b rs n k d)
+cores_listed input (line.End answers brave ar iar undecided ∷ b) (r, rs) n k d =
+    other_line (line.End answers brave ar iar undecided) b n k d (λ e. cc e) (cores_listed input b rs n k d)
 
 pub laws : LawsOfStanding
-laws = record { moves_on = moves_on; blocks = blocks_listed; ended = ended_listed; tried = tried_ended; named = named_listed; cores = cores_listed; counted = cores_counted; counts = λ b. (conflicts_counted b, answers_counted b, all_counted b) }
+laws = record {
+  moves_on = moves_on;
+  blocks = blocks_listed;
+  ended = ended_listed;
+  tried = tried_ended;
+  named = named_listed;
+  cores = cores_listed;
+  counted =
+      cores_counted;
+  counts = λ b. (conflicts_counted b, answers_counted b, all_counted b);
+}

@@ -1,5 +1,6 @@
 -- Tests that tell facts: over lists, and of both or either.
-use Rattle.std.proofs.Common.{◌≡◌, ℕ, ◌⊎◌, ◌↔◌, inl, inr, List, [], ◌∷◌, filter_map, Contains, Bool, true, false, true≢false, not, ◌&&◌, ◌||◌, Option, Some, None, refl, sym, subst, ap, ◌∙◌}
+use Rattle.std.proofs.Common.{◌≡◌, ℕ, ◌⊎◌, ◌↔◌, inl, inr, List, [], ◌∷◌, filter_map, Contains, Bool, true, false, true≢false, not, ◌&&◌, ◌||◌, Option, Some}
+use Rattle.std.proofs.Common.{None, refl, sym, subst, ap, ◌∙◌}
 use Rattle.std.specs.List.{list_any, list_all, cons_option}
 use Rattle.std.specs.Str.{bytes_eq}
 use Rattle.std.proofs.lemmas.Slice.Eq.{bytes_eq-Decides}
@@ -29,7 +30,8 @@ pub tells_not : {P : Type 0} (b : Bool) → Tells b P → Tells (not b) (P → �
 tells_not true t = ((λ e. absurd (true≢false (sym e))), (λ n. absurd (n (t.0 refl))))
 tells_not false t = ((λ e p. true≢false (sym (t.1 p))), (λ n. refl))
 
-pub tells_any : {X : Type 0} (p : X → Bool) (P : X → Type 0) → ((x : X) → Tells (p x) (P x)) → (xs : List X) → Tells (list_any p xs) ((x : X) × Contains xs x × P x)
+pub tells_any : {X : Type 0} (p : X → Bool) (P : X → Type 0) → ((x : X) → Tells (p x) (P x)) → (xs : List X)
+    → Tells (list_any p xs) ((x : X) × Contains xs x × P x)
 tells_any p P t [] = ((λ e. absurd (true≢false (sym e))), (λ (x, m, w). absurd (Contains-nil x m)))
 tells_any {X} p P t (y ∷ xs) = tells_like (p y || list_any p xs) (tells_either (p y) (list_any p xs) (t y) (tells_any p P t xs)) to from
   where
@@ -40,7 +42,8 @@ tells_any {X} p P t (y ∷ xs) = tells_like (p y || list_any p xs) (tells_either
     from : (x : X) × Contains (y ∷ xs) x × P x → P y ⊎ ((x : X) × Contains xs x × P x)
     from (x, m, w) = elim (Contains-cases y xs x m) [ inl e ↦ inl (subst P (sym e) w) | inr k ↦ inr (x, k, w) ]
 
-pub tells_all : {X : Type 0} (p : X → Bool) (P : X → Type 0) → ((x : X) → Tells (p x) (P x)) → (xs : List X) → Tells (list_all p xs) ((x : X) → Contains xs x → P x)
+pub tells_all : {X : Type 0} (p : X → Bool) (P : X → Type 0) → ((x : X) → Tells (p x) (P x)) → (xs : List X)
+    → Tells (list_all p xs) ((x : X) → Contains xs x → P x)
 tells_all p P t [] = ((λ e x m. absurd (Contains-nil x m)), (λ w. refl))
 tells_all {X} p P t (y ∷ xs) = tells_like (p y && list_all p xs) (tells_both (p y) (list_all p xs) (t y) (tells_all p P t xs)) to from
   where
@@ -61,7 +64,8 @@ pub Contains-filter_map : {X Y : Type 0} (f : X → Option Y) (xs : List X) (y :
 Contains-filter_map f [] y m = absurd (Contains-nil y m)
 Contains-filter_map {X} {Y} f (x ∷ xs) y m = go (f x) refl m (λ k. Contains-filter_map f xs y k)
   where
-    go : (o : Option Y) → f x ≡ o → Contains (cons_option o (filter_map f xs)) y → (Contains (filter_map f xs) y → (z : X) × Contains xs z × (f z ≡ Some y)) → (z : X) × Contains (x ∷ xs) z × (f z ≡ Some y)
+    go : (o : Option Y) → f x ≡ o → Contains (cons_option o (filter_map f xs)) y → (Contains (filter_map f xs) y → (z : X) × Contains xs z × (f z ≡ Some y))
+        → (z : X) × Contains (x ∷ xs) z × (f z ≡ Some y)
     go None is m again = let (z, k, e) = again m in (z, Contains-later x xs z k, e)
     go (Some w) is m again = elim (Contains-cases w (filter_map f xs) y m) [
       | inl e ↦ (x, Contains-head x xs, is ∙ ap Some e)
@@ -75,5 +79,6 @@ filter_map-Contains {X} {Y} f (z ∷ xs) x y m e = go (f z) refl (Contains-cases
     go : (o : Option Y) → f z ≡ o → (z ≡ x) ⊎ Contains xs x → (Contains xs x → Contains (filter_map f xs) y) → Contains (cons_option o (filter_map f xs)) y
     go None is (inl same) again = let both : None ≡ Some y = sym is ∙ (ap f same ∙ e) in absurd (cc both)
     go None is (inr k) again = again k
-    go (Some w) is (inl same) again = let both : Some w ≡ Some y = sym is ∙ (ap f same ∙ e) in let one : w ≡ y = cc both in subst (Contains (w ∷ filter_map f xs)) one (Contains-head w (filter_map f xs))
+    go (Some w) is (inl same) again = let both : Some w ≡ Some y = sym is ∙ (ap f same ∙ e) in let one : w ≡ y = cc both in
+        subst (Contains (w ∷ filter_map f xs)) one (Contains-head w (filter_map f xs))
     go (Some w) is (inr k) again = Contains-later w (filter_map f xs) y (again k)

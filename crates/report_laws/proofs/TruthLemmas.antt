@@ -145,14 +145,16 @@ right_lines_true input (line.Forget clauses ∷ b) (r, rs) a = (tt, right_lines_
 -- ---- each answer line of a report is true
 
 -- the answer is true of the query
-line_true : (kb : Knowledge) (names : List (List ℕ)) (q : Query) (before : List Line) → IsAcyclic kb (mode_of before) → (l : Line) → AnswersAt (report_on kb names q) before l → IsTrueLine kb (mode_of before) q l
+line_true : (kb : Knowledge) (names : List (List ℕ)) (q : Query) (before : List Line) → IsAcyclic kb (mode_of before) → (l : Line)
+    → AnswersAt (report_on kb names q) before l → IsTrueLine kb (mode_of before) q l
 line_true kb names q before a (line.Answer brave ar iar cores texts tuple) w =
     let h = opens_rightly (report_on kb names q) w.earlier w.right (ap is_answering w.at) in
     let acyclic : IsAcyclic kb (mode_of w.earlier) = subst (IsAcyclic kb) (sym w.same_mode) a in
     let same : query_of (report_on kb names q) w.earlier ≡ q = one_query kb names q w.earlier w.right (λ e. in_answer (place_of w.earlier) w.at e) in
     subst (λ m. IsTrueLine kb m q (line.Answer brave ar iar cores texts tuple)) w.same_mode
     (subst (λ p. IsTrueLine kb (mode_of w.earlier) p (line.Answer brave ar iar cores texts tuple)) same
-    (subst (λ t. IsTrueLine kb (mode_of w.earlier) (query_of (report_on kb names q) w.earlier) (line.Answer brave ar iar cores texts t)) (sym w.own.same_tuple) (
+    (subst (λ t. IsTrueLine kb (mode_of w.earlier) (query_of (report_on kb names q) w.earlier) (line.Answer brave ar iar cores texts t))
+    (sym w.own.same_tuple) (
       verdict_true (report_on kb names q) w.earlier h.0 h.1 acyclic cores question.Brave brave w.own.brave_is,
       verdict_true (report_on kb names q) w.earlier h.0 h.1 acyclic cores question.Ar ar w.own.ar_is,
       verdict_true (report_on kb names q) w.earlier h.0 h.1 acyclic cores question.Iar iar w.own.iar_is,
@@ -169,11 +171,13 @@ line_true kb names q before a (line.Forget clauses) w = tt
 line_true kb names q before a (line.End answers brave ar iar undecided) w = tt
 
 -- at the end the tuples are the candidates
-all_told : (kb : Knowledge) (names : List (List ℕ)) (q : Query) (before : List Line) → AreRight (report_on kb names q) before → place_of before ≡ AtEnd → AreCandidates kb q (told before)
+all_told : (kb : Knowledge) (names : List (List ℕ)) (q : Query) (before : List Line) → AreRight (report_on kb names q) before → place_of before ≡ AtEnd
+    → AreCandidates kb q (told before)
 unfolding told
 all_told kb names q (line.End answers brave ar iar undecided ∷ b) (r, rs) e =
     let n = before_end kb names q (line.End answers brave ar iar undecided) b r in
-    subst (AreCandidates kb q) (answered_told kb names q b rs n ∙ sym (append-nil (told b))) (subst (λ p. AreCandidates kb p (answered b)) (one_query kb names q b rs n) r.own.none_left)
+    subst (AreCandidates kb q) (answered_told kb names q b rs n ∙ sym (append-nil (told b)))
+    (subst (λ p. AreCandidates kb p (answered b)) (one_query kb names q b rs n) r.own.none_left)
 all_told kb names q (line.Head _ _ _ _ _ _ ∷ b) r e = absurd (cc)
 all_told kb names q (line.Cq _ _ _ ∷ b) r e = absurd (cc)
 all_told kb names q (line.Conflict _ _ _ ∷ b) r e = absurd (cc)
@@ -187,8 +191,10 @@ all_told kb names q (line.Answer _ _ _ _ _ _ ∷ b) r e = absurd (cc)
 all_told kb names q [] r e = absurd (cc)
 
 -- an accepted report tells the candidates in order, and nothing false of them
-pub accepted_is_true : (kb : Knowledge) (names : List (List ℕ)) (q : Query) (lines : List Line) → Accepts kb names q lines → IsAcyclic kb (mode_told lines) → AreTrueAnswers kb q lines
+pub accepted_is_true : (kb : Knowledge) (names : List (List ℕ)) (q : Query) (lines : List Line) → Accepts kb names q lines → IsAcyclic kb (mode_told lines)
+    → AreTrueAnswers kb q lines
 accepted_is_true kb names q lines w a = (
   subst (AreCandidates kb q) (told-reverse lines) (all_told kb names q (reverse lines) w.right w.ended),
-  All-of (IsTrueLine kb (mode_told lines) q) lines (λ l m. line_true kb names q (reverse lines) a l (answers_at (report_on kb names q) (reverse lines) w.right l (Contains-reverse lines l m))),
+  All-of (IsTrueLine kb (mode_told lines) q) lines (λ l m. line_true kb names q (reverse lines) a l
+      (answers_at (report_on kb names q) (reverse lines) w.right l (Contains-reverse lines l m))),
 )

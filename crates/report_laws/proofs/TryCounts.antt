@@ -1,5 +1,6 @@
 -- An answer has few tries and cores, and learns few clauses.
-use Rattle.std.proofs.Common.{◌≡◌, ◌≢◌, ℕ, suc, ◌<◌, ◌≤◌, ◌+◌, ◌*◌, inl, inr, List, [], ◌∷◌, ◌++◌, length, map, Contains, AllPairs, refl, sym, subst, ap, cond, arith}
+use Rattle.std.proofs.Common.{◌≡◌, ◌≢◌, ℕ, suc, ◌<◌, ◌≤◌, ◌+◌, ◌*◌, inl, inr, List, [], ◌∷◌, ◌++◌, length, map, Contains, AllPairs, refl, sym, subst, ap}
+use Rattle.std.proofs.Common.{cond, arith}
 use Rattle.std.proofs.lemmas.List.{length-map, length-append}
 use Rattle.std.proofs.lemmas.List.Kept.{AllPairs-cons}
 use Rattle.cq_terms.specs.Knowledge.{Knowledge}
@@ -70,15 +71,19 @@ tries_are input (line.Try q assume ∷ b) (r, rs) = added (tries_are input b rs)
     added w = record {
       counted = ap suc w.counted;
       tried = λ s a m. elim (Contains-cases (pair_of q assume) (tries_of b) (pair_of s a) m) [ inl e ↦ inl (same s a e) | inr k ↦ inr (w.tried s a k) ];
-      distinct = AllPairs-cons (λ s t. s ≢ t) (pair_of q assume) (tries_of b) (All-of (λ t. pair_of q assume ≢ t) (tries_of b) (λ t k e. r.own.new (w.tried q assume (subst (Contains (tries_of b)) (sym e) k)))) w.distinct;
+      distinct = AllPairs-cons (λ s t. s ≢ t) (pair_of q assume) (tries_of b)
+          (All-of (λ t. pair_of q assume ≢ t) (tries_of b) (λ t k e. r.own.new (w.tried q assume (subst (Contains (tries_of b)) (sym e) k)))) w.distinct;
       may = λ s a m. elim (Contains-cases (pair_of q assume) (tries_of b) (pair_of s a) m) [
         | inl e ↦ (let (d, f) = same s a e in subst (λ x. MayAssume input.kb (asked b) x a) d (subst (MayAssume input.kb (asked b) q) f r.own.assumes))
         | inr k ↦ w.may s a k
       ];
     }
-tries_are input (line.Learn number clause ∷ b) (r, rs) = let w = tries_are input b rs in record { counted = w.counted; tried = w.tried; distinct = w.distinct; may = w.may }
-tries_are input (line.Core number kept dropped ∷ b) (r, rs) = let w = tries_are input b rs in record { counted = w.counted; tried = w.tried; distinct = w.distinct; may = w.may }
-tries_are input (line.Done how core ∷ b) (r, rs) = let w = tries_are input b rs in record { counted = w.counted; tried = w.tried; distinct = w.distinct; may = w.may }
+tries_are input (line.Learn number clause ∷ b) (r, rs) = let w = tries_are input b rs in
+    record { counted = w.counted; tried = w.tried; distinct = w.distinct; may = w.may }
+tries_are input (line.Core number kept dropped ∷ b) (r, rs) = let w = tries_are input b rs in
+    record { counted = w.counted; tried = w.tried; distinct = w.distinct; may = w.may }
+tries_are input (line.Done how core ∷ b) (r, rs) = let w = tries_are input b rs in
+    record { counted = w.counted; tried = w.tried; distinct = w.distinct; may = w.may }
 tries_are input [] r = absurd r
 tries_are input (line.Head axioms budget facts keep repairs version ∷ b) (r, rs) = absurd r.own
 tries_are input (line.Cq origin query step ∷ b) (r, rs) = absurd r.own
@@ -104,16 +109,22 @@ ar_tries kb a = pair_of question.Ar (present (selector_of kb a.candidate) ∷ []
 abbrev possible : Knowledge → Asked → List ℕ → List (Question × List ℕ)
 possible kb a facts = brave_tries a ++ (iar_tries facts ++ ar_tries kb a)
 
-in_possible : (kb : Knowledge) (a : Asked) (facts : List ℕ) → HasFactsOf a.causes facts → (q : Question) (assume : List ℕ) → MayAssume kb a q assume → Contains (possible kb a facts) (pair_of q assume)
+in_possible : (kb : Knowledge) (a : Asked) (facts : List ℕ) → HasFactsOf a.causes facts → (q : Question) (assume : List ℕ) → MayAssume kb a q assume
+    → Contains (possible kb a facts) (pair_of q assume)
 in_possible kb a facts has question.Brave assume (cause, m, e) =
     append_left (brave_tries a) (iar_tries facts ++ ar_tries kb a) (pair_of question.Brave assume)
-    (subst (λ (x : List ℕ). Contains (brave_tries a) (pair_of question.Brave x)) (sym e) (Contains-map (λ (c : List ℕ). pair_of question.Brave (map present c)) a.causes cause m))
+    (subst (λ (x : List ℕ). Contains (brave_tries a) (pair_of question.Brave x)) (sym e)
+    (Contains-map (λ (c : List ℕ). pair_of question.Brave (map present c)) a.causes cause m))
 in_possible kb a facts has question.Iar assume (cause, i, m, k, e) =
-    append_right (brave_tries a) (iar_tries facts ++ ar_tries kb a) (pair_of question.Iar assume) (append_left (iar_tries facts) (ar_tries kb a) (pair_of question.Iar assume)
-    (subst (λ (x : List ℕ). Contains (iar_tries facts) (pair_of question.Iar x)) (sym e) (Contains-map (λ (i : ℕ). pair_of question.Iar (absent i ∷ [])) facts i (has cause i m k))))
+    append_right (brave_tries a) (iar_tries facts ++ ar_tries kb a) (pair_of question.Iar assume)
+    (append_left (iar_tries facts) (ar_tries kb a) (pair_of question.Iar assume)
+    (subst (λ (x : List ℕ). Contains (iar_tries facts) (pair_of question.Iar x)) (sym e)
+    (Contains-map (λ (i : ℕ). pair_of question.Iar (absent i ∷ [])) facts i (has cause i m k))))
 in_possible kb a facts has question.Ar assume e =
-    append_right (brave_tries a) (iar_tries facts ++ ar_tries kb a) (pair_of question.Ar assume) (append_right (iar_tries facts) (ar_tries kb a) (pair_of question.Ar assume)
-    (subst (λ (x : List ℕ). Contains (ar_tries kb a) (pair_of question.Ar x)) (sym e) (Contains-head (pair_of question.Ar (present (selector_of kb a.candidate) ∷ [])) [])))
+    append_right (brave_tries a) (iar_tries facts ++ ar_tries kb a) (pair_of question.Ar assume)
+    (append_right (iar_tries facts) (ar_tries kb a) (pair_of question.Ar assume)
+    (subst (λ (x : List ℕ). Contains (ar_tries kb a) (pair_of question.Ar x)) (sym e)
+    (Contains-head (pair_of question.Ar (present (selector_of kb a.candidate) ∷ [])) [])))
 
 length-possible : (kb : Knowledge) (a : Asked) (facts : List ℕ) → length (possible kb a facts) ≡ length a.causes + length facts + 1
 length-possible kb a facts =
@@ -123,10 +134,12 @@ length-possible kb a facts =
     let iar = length-map facts (λ (i : ℕ). pair_of question.Iar (absent i ∷ [])) in
     omega arith
 
-pub tries_are_few : (input : Input) (before : List Line) → IsRightAnswer input before → (facts : List ℕ) → HasFactsOf (asked before).causes facts → count_tries before ≤ length (asked before).causes + length facts + 1
+pub tries_are_few : (input : Input) (before : List Line) → IsRightAnswer input before → (facts : List ℕ) → HasFactsOf (asked before).causes facts
+    → count_tries before ≤ length (asked before).causes + length facts + 1
 tries_are_few input before r facts has =
     let w = tries_are input before r in
-    let few = fewer_than (tries_of before) (possible input.kb (asked before) facts) w.distinct (λ t m. in_possible input.kb (asked before) facts has t.0 t.1 (w.may t.0 t.1 m)) in
+    let few = fewer_than (tries_of before) (possible input.kb (asked before) facts) w.distinct
+    (λ t m. in_possible input.kb (asked before) facts has t.0 t.1 (w.may t.0 t.1 m)) in
     omega (arith, w.counted, length-possible input.kb (asked before) facts)
 
 -- ---- learned clauses
@@ -137,7 +150,8 @@ record WithinBudget (b : List Line) : Type 0 where
   within : (q : Question) → learned_for q b ≤ budget_of b
 
 -- one more clause in one of the three questions
-one_more : (q : Question) (n x y z : ℕ) → n ≡ x + y + z → suc n ≡ cond (same_question question.Brave q) (suc x) x + cond (same_question question.Iar q) (suc y) y + cond (same_question question.Ar q) (suc z) z
+one_more : (q : Question) (n x y z : ℕ) → n ≡ x + y + z → suc n
+    ≡ cond (same_question question.Brave q) (suc x) x + cond (same_question question.Iar q) (suc y) y + cond (same_question question.Ar q) (suc z) z
 one_more question.Brave n x y z e = omega arith
 one_more question.Iar n x y z e = omega arith
 one_more question.Ar n x y z e = omega arith
@@ -159,7 +173,8 @@ clauses_within input (line.Learn number clause ∷ b) (r, rs) =
     let w = clauses_within input b rs in
     record {
       counted = one_more (question_of b) (count_clauses b) (learned_for question.Brave b) (learned_for question.Iar b) (learned_for question.Ar b) w.counted;
-      within = λ q. still_within q (question_of b) (learned_for q b) (learned_for (question_of b) b) (budget_of b) (w.within q) r.own.in_budget (λ e. ap (λ x. learned_for x b) e);
+      within = λ q. still_within q (question_of b) (learned_for q b) (learned_for (question_of b) b) (budget_of b) (w.within q) r.own.in_budget
+          (λ e. ap (λ x. learned_for x b) e);
     }
 clauses_within input (line.Try q assume ∷ b) (r, rs) = let w = clauses_within input b rs in record { counted = w.counted; within = w.within }
 clauses_within input (line.Core number kept dropped ∷ b) (r, rs) = let w = clauses_within input b rs in record { counted = w.counted; within = w.within }
@@ -189,7 +204,8 @@ few_cores input [] r = absurd r
 few_cores input (line.Ask candidate tuple causes members ∷ b) r = record { none = λ e. refl; few = omega arith }
 few_cores input (line.Try q assume ∷ b) (r, rs) = record { none = λ e. refl; few = omega arith }
 few_cores input (line.Learn number clause ∷ b) (r, rs) = let w = few_cores input b rs in record { none = λ e. w.none r.order; few = w.few }
-few_cores input (line.Core number kept dropped ∷ b) (r, rs) = let e = (few_cores input b rs).none r.order in record { none = λ p. absurd (cc); few = omega arith }
+few_cores input (line.Core number kept dropped ∷ b) (r, rs) = let e = (few_cores input b rs).none r.order in
+    record { none = λ p. absurd (cc); few = omega arith }
 few_cores input (line.Done how core ∷ b) (r, rs) = let w = few_cores input b rs in record { none = λ p. absurd (cc); few = w.few }
 few_cores input (line.Head axioms budget facts keep repairs version ∷ b) (r, rs) = absurd r.own
 few_cores input (line.Cq origin query step ∷ b) (r, rs) = absurd r.own

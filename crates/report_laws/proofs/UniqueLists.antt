@@ -30,7 +30,8 @@ pair_once p r (inr (e, a)) (inr (f, b)) = omega arith
 
 pub conflicts_one : ConflictsAreOne
 conflicts_one kb owns others pairs couples u w = (
-  ascending_same owns others u.owns_ascending w.owns_ascending (λ i m. (w.owns_exact i).1 ((u.owns_exact i).0 m)) (λ i m. (u.owns_exact i).1 ((w.owns_exact i).0 m)),
+  ascending_same owns others u.owns_ascending w.owns_ascending (λ i m. (w.owns_exact i).1 ((u.owns_exact i).0 m))
+      (λ i m. (u.owns_exact i).1 ((w.owns_exact i).0 m)),
   pairs_same (λ (p r : ℕ × ℕ). (p.0 < r.0) ⊎ ((p.0 ≡ r.0) × (p.1 < r.1))) pair_once pairs couples u.pairs_ascending w.pairs_ascending
       (λ (p : ℕ × ℕ) m. (w.pairs_exact p.0 p.1).1 ((u.pairs_exact p.0 p.1).0 m)) (λ (p : ℕ × ℕ) m. (u.pairs_exact p.0 p.1).1 ((w.pairs_exact p.0 p.1).0 m)),
 )
@@ -42,7 +43,8 @@ conflict_lists_one kb lists others (owns, pairs, u, e) (owns', pairs', w, f) =
 
 pub causes_one : CausesAreOne
 causes_one kb q tuple causes others u w =
-    pairs_same (λ (a b : List ℕ). slice_cmp nat_cmp a b ≡ Less) less_once causes others u.ascending w.ascending (same_causes kb q tuple causes others u w) (same_causes kb q tuple others causes w u)
+    pairs_same (λ (a b : List ℕ). slice_cmp nat_cmp a b ≡ Less) less_once causes others u.ascending w.ascending (same_causes kb q tuple causes others u w)
+    (same_causes kb q tuple others causes w u)
 
 pub candidates_one : CandidatesAreOne
 candidates_one kb q tuples others u w =

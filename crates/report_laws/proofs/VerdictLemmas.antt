@@ -1,5 +1,6 @@
 -- Each verdict that the lines of an answer settle is true.
-use Rattle.std.proofs.Common.{◌≡◌, ℕ, ◌<◌, inl, inr, List, [], ◌∷◌, length, map, Contains, Bool, true, false, None, Some, IsTrue, IsFalse, true≢false, sym, subst, ◌∙◌}
+use Rattle.std.proofs.Common.{◌≡◌, ℕ, ◌<◌, inl, inr, List, [], ◌∷◌, length, map, Contains, Bool, true, false, None, Some, IsTrue, IsFalse, true≢false, sym}
+use Rattle.std.proofs.Common.{subst, ◌∙◌}
 use Rattle.std.proofs.lemmas.Bool.{cases_Bool}
 use Rattle.cq_meaning.specs.Conflicts.{In, AreConsistent, FactsEntail}
 use Rattle.cq_meaning.specs.Candidates.{AreCauses}
@@ -63,7 +64,8 @@ refuted_try input (line.End answers brave ar iar undecided ∷ b) (r, rs) v w q 
 
 -- ---- the table of evidence
 
-module _ (input : Input) (before : List Line) (right : IsRightAnswer input before) (rests : RestsOnTruth input before) (acyclic : IsAcyclic input.kb (mode_of before)) (cores : List ℕ) where
+module _ (input : Input) (before : List Line) (right : IsRightAnswer input before) (rests : RestsOnTruth input before)
+    (acyclic : IsAcyclic input.kb (mode_of before)) (cores : List ℕ) where
   -- what is said of the open candidate
   abbrev Says : Question → Type 0
   Says q = Holds input.kb (mode_of before) (query_of input before) (asked before).tuple q
@@ -75,19 +77,23 @@ module _ (input : Input) (before : List Line) (right : IsRightAnswer input befor
   is_fact = listed_within input.kb (query_of input before) (asked before).tuple (asked before).causes causes_are
 
   -- a set that has a whole cause entails the candidate
-  entailed : (cause : List ℕ) → Contains (asked before).causes cause → (S : ℕ → Type 0) → ((i : ℕ) → Contains cause i → S i) → FactsEntail input.kb S (query_of input before) (asked before).tuple
+  entailed : (cause : List ℕ) → Contains (asked before).causes cause → (S : ℕ → Type 0) → ((i : ℕ) → Contains cause i → S i)
+      → FactsEntail input.kb S (query_of input before) (asked before).tuple
   entailed = cause_entails input.kb (query_of input before) (asked before).tuple (asked before).causes causes_are
 
   -- a consistent set that entails it has a whole cause
-  some_cause : (S : ℕ → Type 0) → AreConsistent input.kb S → FactsEntail input.kb S (query_of input before) (asked before).tuple → (cause : List ℕ) × Contains (asked before).causes cause × ((i : ℕ) → Contains cause i → S i)
+  some_cause : (S : ℕ → Type 0) → AreConsistent input.kb S → FactsEntail input.kb S (query_of input before) (asked before).tuple → (cause : List ℕ)
+      × Contains (asked before).causes cause × ((i : ℕ) → Contains cause i → S i)
   some_cause = entails_cause input.kb (query_of input before) (asked before).tuple (asked before).causes causes_are
 
   -- a core lies in a chosen repair, without what it drops
   repair_of : (n : ℕ) (kept dropped : List ℕ) → Contains before (line.Core n kept dropped)
-      → (R : ℕ → Bool) × IsChosen input.kb (mode_of before) R × ((i : ℕ) → Contains kept i → In R i) × ((i : ℕ) → i < length input.kb.facts → Contains dropped i → IsFalse (R i))
+      → (R : ℕ → Bool) × IsChosen input.kb (mode_of before) R × ((i : ℕ) → Contains kept i → In R i)
+      × ((i : ℕ) → i < length input.kb.facts → Contains dropped i → IsFalse (R i))
   repair_of n kept dropped m =
       let t = conflicts_told input.kb in
-      let w = core_extends input.kb (mode_of before) t.0 t.1 t.2 acyclic (has kept) (has dropped) (open_cores input before right rests.cores n kept dropped m) in
+      let w = core_extends input.kb (mode_of before) t.0 t.1 t.2 acyclic (has kept) (has dropped)
+      (open_cores input before right rests.cores n kept dropped m) in
       (w.0, w.1, (λ i k. w.2 i (has_true kept i k)), (λ i l k. w.3 i l (has_true dropped i k)))
 
   -- there is a chosen repair
@@ -96,7 +102,8 @@ module _ (input : Input) (before : List Line) (right : IsRightAnswer input befor
 
   -- a reading of a chosen repair, and the clauses that it makes true
   read : (R : ℕ → Bool) → IsChosen input.kb (mode_of before) R
-      → (v : ℕ → Bool) × Reads input before R v × SatisfiesStart input before v × (v (selector_of input.kb (asked before).candidate) ≡ false → FactsEntail input.kb (In R) (query_of input before) (asked before).tuple)
+      → (v : ℕ → Bool) × Reads input before R v × SatisfiesStart input before v
+      × (v (selector_of input.kb (asked before).candidate) ≡ false → FactsEntail input.kb (In R) (query_of input before) (asked before).tuple)
   read R c =
       let u = reading_exists input before rests.in_place R c.repair.consistent in
       (u.0, u.1, reading_starts input before right rests.in_place rests.learned R u.0 c u.1, u.2)
@@ -119,7 +126,8 @@ module _ (input : Input) (before : List Line) (right : IsRightAnswer input befor
       let u = read R c in
       let sel : ℕ = selector_of input.kb (asked before).candidate in
       elim (cases_Bool (u.0 sel)) [
-        | inl t ↦ absurd (refuted_try input before right u.0 u.2 question.Ar (present sel ∷ []) h (λ l k. subst (IsTrueIn u.0) (only_one (present sel) l k) (present_true u.0 sel t)))
+        | inl t ↦ absurd (refuted_try input before right u.0 u.2 question.Ar (present sel ∷ []) h
+            (λ l k. subst (IsTrueIn u.0) (only_one (present sel) l k) (present_true u.0 sel t)))
         | inr f ↦ u.3 f
       ]
 
@@ -142,7 +150,8 @@ module _ (input : Input) (before : List Line) (right : IsRightAnswer input befor
   iar_no : IsShown input.kb before cores question.Iar verdict.No → ¬ Says question.Iar
   iar_no each iar =
       let S : ℕ → Type 0 = (λ i. (R : ℕ → Bool) → IsChosen input.kb (mode_of before) R → IsTrue (R i)) in
-      let (cause, m, inside) = some_cause S (AreConsistent-mono input.kb S (In some_chosen.0) (λ i h. h some_chosen.0 some_chosen.1) some_chosen.1.repair.consistent) iar in
+      let (cause, m, inside) = some_cause S (AreConsistent-mono input.kb S (In some_chosen.0) (λ i h. h some_chosen.0 some_chosen.1)
+      some_chosen.1.repair.consistent) iar in
       let d = each cause m in
       let w = repair_of d.0 d.1 d.2 d.4 in
       let i = d.5.0 in
@@ -151,7 +160,8 @@ module _ (input : Input) (before : List Line) (right : IsRightAnswer input befor
   -- ---- what gives it
 
   iar_gives_ar : Says question.Iar → Says question.Ar
-  iar_gives_ar h R c = FactsEntail-mono input.kb (query_of input before) (asked before).tuple (λ i. (R : ℕ → Bool) → IsChosen input.kb (mode_of before) R → IsTrue (R i)) (In R) (λ i k. k R c) h
+  iar_gives_ar h R c = FactsEntail-mono input.kb (query_of input before) (asked before).tuple
+      (λ i. (R : ℕ → Bool) → IsChosen input.kb (mode_of before) R → IsTrue (R i)) (In R) (λ i k. k R c) h
 
   ar_gives_brave : Says question.Ar → Says question.Brave
   ar_gives_brave h = (some_chosen.0, some_chosen.1, h some_chosen.0 some_chosen.1)
@@ -173,7 +183,8 @@ module _ (input : Input) (before : List Line) (right : IsRightAnswer input befor
   no_holds question.Iar (inr (inr s)) h = brave_no s (ar_gives_brave (iar_gives_ar h))
 
   -- the verdict of a right answer line is true
-  pub verdict_true : (q : Question) (said : Verdict) → IsVerdict input.kb before cores q said → IsTrueVerdict (Holds input.kb (mode_of before) (query_of input before) (asked before).tuple q) said
+  pub verdict_true : (q : Question) (said : Verdict) → IsVerdict input.kb before cores q said
+      → IsTrueVerdict (Holds input.kb (mode_of before) (query_of input before) (asked before).tuple q) said
   verdict_true q verdict.Yes s = yes_holds q s
   verdict_true q verdict.No s = no_holds q s
   verdict_true q verdict.Undecided s = tt

@@ -1,5 +1,6 @@
 -- The rules of lines over what is kept of the lines before: each is what the rule says of the lines themselves.
-use Rattle.std.specs.Prelude.{◌≡◌, ◌↔◌, ◌+◌, ◌<◌, ◌≤◌, ◌⊎◌, ◌/◌, ◌&&◌, ◌++◌, ℕ, List, [], ◌∷◌, length, map, filter, All, Contains, Bool, not, IsTrue, Option, Some, None, slice_get, nat_lt, if◌then◌else◌}
+use Rattle.std.specs.Prelude.{◌≡◌, ◌↔◌, ◌+◌, ◌<◌, ◌≤◌, ◌⊎◌, ◌/◌, ◌&&◌, ◌++◌, ℕ, List, [], ◌∷◌, length, map, filter, All, Contains, Bool, not, IsTrue, Option}
+use Rattle.std.specs.Prelude.{Some, None, slice_get, nat_lt, if◌then◌else◌}
 use Rattle.std.specs.List.{AllZip, list_any, list_all}
 use Rattle.std.specs.Str.{bytes_eq}
 use Rattle.cq_terms.specs.declared.facts.Repairs.{Repairs}

@@ -1,5 +1,6 @@
 -- The laws by which a reader finds out the conflicts and the candidates from what the members of closed blocks match.
-use Rattle.std.specs.Prelude.{◌≡◌, ◌≢◌, ◌↔◌, ◌&&◌, ◌||◌, ◌++◌, ℕ, List, [], ◌∷◌, map, filter, filter_map, All, AllPairs, Any, Contains, Bool, not, Some, slice_get, if◌then◌else◌}
+use Rattle.std.specs.Prelude.{◌≡◌, ◌≢◌, ◌↔◌, ◌&&◌, ◌||◌, ◌++◌, ℕ, List, [], ◌∷◌, map, filter, filter_map, All, AllPairs, Any, Contains, Bool, not, Some}
+use Rattle.std.specs.Prelude.{slice_get, if◌then◌else◌}
 use Rattle.std.specs.List.{list_any, list_all}
 use Rattle.std.specs.Str.{bytes_eq}
 use Rattle.std.specs.Ordering.{nat_cmp}

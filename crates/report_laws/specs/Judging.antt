@@ -16,7 +16,8 @@ use Rattle.report_rules.specs.Rules.{HeadIsRight}
 use Rattle.report_rules.specs.Accepted.{Right, AreRight}
 use Rattle.report_rules.specs.Broken.{rule_of, Breaks}
 use Rattle.report_laws.specs.Standing.{Standing, standing_of, members_at}
-use Rattle.report_laws.specs.AtStanding.{Candidate, AreCandidatesOf, HasQueryLeftAt, LeavesClosedAt, LeavesNoneOutAt, JoinsAt, ConflictAt, AskAt, evidence_at, is_right_try, LearnAt, CoreAt, DoneAt, ForgetAt, AnswerAt, EndAt}
+use Rattle.report_laws.specs.AtStanding.{Candidate, AreCandidatesOf, HasQueryLeftAt, LeavesClosedAt, LeavesNoneOutAt, JoinsAt, ConflictAt, AskAt, evidence_at}
+use Rattle.report_laws.specs.AtStanding.{is_right_try, LearnAt, CoreAt, DoneAt, ForgetAt, AnswerAt, EndAt}
 use Rattle.std.specs.Prelude.{IsTrue, []}
 
 -- what a reader finds out itself: all conflicts, the candidates of the query with their causes, the priority, and the live clauses

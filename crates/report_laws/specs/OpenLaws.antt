@@ -18,7 +18,8 @@ use Rattle.report_rules.specs.Live.{Live}
 use Rattle.report_rules.specs.Evidence.{IsVerdict}
 use Rattle.report_rules.specs.Accepted.{Right, AreRight}
 use Rattle.report_laws.specs.Readings.{Reads, Holds, IsTrueVerdict, IsDecided}
-use Rattle.report_laws.specs.OpenAnswers.{RightInside, HasNextNumber, IsRightAnswer, IsInPlace, AreConsistentLists, start_of, HoldInChosen, LearnedHold, CoresHold, CoresAreNumbered, CoresAreUnique, Start, IsAmong, Tells}
+use Rattle.report_laws.specs.OpenAnswers.{RightInside, HasNextNumber, IsRightAnswer, IsInPlace, AreConsistentLists, start_of, HoldInChosen, LearnedHold}
+use Rattle.report_laws.specs.OpenAnswers.{CoresHold, CoresAreNumbered, CoresAreUnique, Start, IsAmong, Tells}
 
 -- a candidate in place, and a start whose clauses and cores hold
 pub record RestsOnTruth (input : Input) (before : List Line) : Type 0 where

@@ -28,7 +28,8 @@ use Rattle.report_rules.specs.Tries.{Asked, asked, assumed}
 use Rattle.report_rules.specs.Live.{Live, IsLearned}
 use Rattle.report_rules.specs.TryRules.{MayAssume, MayLearn, LearnIsRight, DoneIsRight}
 use Rattle.report_laws.specs.OpenAnswers.{start_of, IsRightAnswer, LearnedHold, Start, IsAmong, Tells}
-use Rattle.report_laws.specs.Scopes.{scope_of, IsScope, AreComponents, IsApart, AreApart, LearnedApart, KeepsTo, KeepsScope, SayTheSame, ScopeDecides, HasUnits, goes_beyond, LearnsInScope, SpentInScope}
+use Rattle.report_laws.specs.Scopes.{scope_of, IsScope, AreComponents, IsApart, AreApart, LearnedApart, KeepsTo, KeepsScope, SayTheSame, ScopeDecides}
+use Rattle.report_laws.specs.Scopes.{HasUnits, goes_beyond, LearnsInScope, SpentInScope}
 
 -- the facts of the components of causes are a scope, with each selector behind them
 abbrev pub ComponentsAreScope : Type 0

@@ -1,5 +1,6 @@
 -- What a reader keeps of the lines so far, and what each further line makes of it.
-use Rattle.std.specs.Prelude.{◌+◌, ◌≡◌, ◌↔◌, ℕ, suc, List, [], ◌∷◌, ◌++◌, length, reverse, filter, Contains, Bool, true, not, if◌then◌else◌, Option, Some, None, slice_get}
+use Rattle.std.specs.Prelude.{◌+◌, ◌≡◌, ◌↔◌, ℕ, suc, List, [], ◌∷◌, ◌++◌, length, reverse, filter, Contains, Bool, true, not, if◌then◌else◌, Option, Some}
+use Rattle.std.specs.Prelude.{None, slice_get}
 use Rattle.cq_terms.specs.declared.facts.Repairs.{Repairs}
 use Rattle.cq_terms.specs.Query.{Query}
 use Rattle.priority_graph.specs.Split.{has}

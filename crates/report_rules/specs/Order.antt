@@ -7,7 +7,8 @@ use Rattle.report_rules.specs.Inputs.{Form, OneQuery, Session}
 use Rattle.report_text.specs.declared.line.Line.{Line}
 use Rattle.report_text.specs.declared.line.Line.TheVariants as line
 use Rattle.report_rules.specs.declared.place.Place.{Place}
-use Rattle.report_rules.specs.declared.place.Place.TheVariants.{AtStart, AfterHead, InBlock, InConflicts, AfterForget, InAnswer, InTry, AfterCore, AfterAnswer, AtEnd}
+use Rattle.report_rules.specs.declared.place.Place.TheVariants.{AtStart, AfterHead, InBlock, InConflicts, AfterForget, InAnswer, InTry, AfterCore}
+use Rattle.report_rules.specs.declared.place.Place.TheVariants.{AfterAnswer, AtEnd}
 use Rattle.report_text.specs.declared.line.Origin.{Origin}
 use Rattle.report_text.specs.declared.line.Origin.TheVariants as origin
 

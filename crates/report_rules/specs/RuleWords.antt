@@ -1,7 +1,8 @@
 -- The names of the rules of acceptance.
 use Rattle.std.specs.Prelude.{ℕ, List, codes}
 use Rattle.report_rules.specs.declared.rule.Rule.{Rule}
-use Rattle.report_rules.specs.declared.rule.Rule.TheVariants.{Text, Order, Closed, Head, Cq, Conflict, Ask, Try, Learn, Core, Done, Forget, Answer, End, Missing}
+use Rattle.report_rules.specs.declared.rule.Rule.TheVariants.{Text, Order, Closed, Head, Cq, Conflict, Ask, Try, Learn, Core, Done, Forget, Answer, End}
+use Rattle.report_rules.specs.declared.rule.Rule.TheVariants.{Missing}
 
 -- the word for a rule
 abbrev pub rule_word : Rule → List ℕ

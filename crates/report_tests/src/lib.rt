@@ -1,6 +1,8 @@
-//! Tests of lines of reports, printed and read.
+//! Tests of lines of reports, printed and read, and of reports that are confirmed.
 #![tactic(auto)]
 
+#[cfg(test)]
+mod confirmations;
 #[cfg(test)]
 mod lines;
 #[cfg(test)]

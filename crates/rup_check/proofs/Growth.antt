@@ -1,5 +1,6 @@
 -- Marks that grow by what the live clauses force, and clauses that rest.
-use Rattle.std.proofs.Common.{◌≡◌, ℕ, ◌<◌, ◌+◌, ◌⊎◌, inl, inr, ◌↔◌, List, [], ◌∷◌, ◌++◌, length, take, get_or, Contains, Option, append_assoc, sym, subst, ap, ◌∙◌, rules}
+use Rattle.std.proofs.Common.{◌≡◌, ℕ, ◌<◌, ◌+◌, ◌⊎◌, inl, inr, ◌↔◌, List, [], ◌∷◌, ◌++◌, length, take, get_or, Contains, Option, append_assoc, sym, subst, ap}
+use Rattle.std.proofs.Common.{◌∙◌, rules}
 use Rattle.std.proofs.lemmas.List.Elements.{Contains-append_left, Contains-push, Contains-push_cases}
 use Rattle.clause_meaning.specs.Literals.{opposite_of}
 use Rattle.clause_meaning.specs.Refutation.{Forces, IsFalseUnder, Refutes, Reaches}
@@ -49,7 +50,8 @@ GrowsBy-push slots old new c l grown s f free = record {
   more = (grown.more.0 ++ l ∷ [], ap (λ (ls : List ℕ). ls ++ l ∷ []) grown.more.1 ∙ append_assoc old grown.more.0 (l ∷ []));
   reached = λ k m. elim (Contains-push_cases new l k m) [
     | inl n ↦ grown.reached k n
-    | inr e ↦ subst (Reaches (HeldIn slots) (IsMarked old)) e (Reaches-forced (HeldIn slots) (IsMarked old) c l s (Forces-more c (IsMarked new) (Reaches (HeldIn slots) (IsMarked old)) l grown.reached f))
+    | inr e ↦ subst (Reaches (HeldIn slots) (IsMarked old)) e (Reaches-forced (HeldIn slots) (IsMarked old) c l s
+        (Forces-more c (IsMarked new) (Reaches (HeldIn slots) (IsMarked old)) l grown.reached f))
   ];
   consistent = consistent_push new l grown.consistent free;
 }
@@ -57,7 +59,8 @@ GrowsBy-push slots old new c l grown s f free = record {
 pub GrowsBy-trans : (slots : List (Option (List ℕ))) (old new newer : List ℕ) → GrowsBy slots old new → GrowsBy slots new newer → GrowsBy slots old newer
 GrowsBy-trans slots old new newer g h = record {
   more = (g.more.0 ++ h.more.0, h.more.1 ∙ (ap (λ (ls : List ℕ). ls ++ h.more.0) g.more.1 ∙ append_assoc old g.more.0 h.more.0));
-  reached = λ l m. Reaches-again (HeldIn slots) (IsMarked old) l (Reaches-more (HeldIn slots) (HeldIn slots) (IsMarked new) (Reaches (HeldIn slots) (IsMarked old)) (λ c s. s) g.reached l (h.reached l m));
+  reached = λ l m. Reaches-again (HeldIn slots) (IsMarked old) l
+      (Reaches-more (HeldIn slots) (HeldIn slots) (IsMarked new) (Reaches (HeldIn slots) (IsMarked old)) (λ c s. s) g.reached l (h.reached l m));
   consistent = h.consistent;
 }
 
@@ -65,10 +68,12 @@ pub GrowsBy-stays : (slots : List (Option (List ℕ))) (old new : List ℕ) (l :
 GrowsBy-stays slots old new l grown m = subst (λ (ls : List ℕ). Contains ls l) (sym grown.more.1) (Contains-append_left old grown.more.0 l m)
 
 -- a false clause, of marks that only grew
-pub refuted_by_false : (slots : List (Option (List ℕ))) (old new : List ℕ) (c : List ℕ) → GrowsBy slots old new → HeldIn slots c → IsFalseUnder (IsMarked new) c → Refutes (HeldIn slots) (IsMarked old)
+pub refuted_by_false : (slots : List (Option (List ℕ))) (old new : List ℕ) (c : List ℕ) → GrowsBy slots old new → HeldIn slots c
+    → IsFalseUnder (IsMarked new) c → Refutes (HeldIn slots) (IsMarked old)
 refuted_by_false slots old new c grown s f = Refutes-from_clash (HeldIn slots) (IsMarked old) (inl (c, s, λ k m. grown.reached (opposite_of k) (f k m)))
 
-pub refuted_later : (slots : List (Option (List ℕ))) (old new : List ℕ) → GrowsBy slots old new → Refutes (HeldIn slots) (IsMarked new) → Refutes (HeldIn slots) (IsMarked old)
+pub refuted_later : (slots : List (Option (List ℕ))) (old new : List ℕ) → GrowsBy slots old new → Refutes (HeldIn slots) (IsMarked new)
+    → Refutes (HeldIn slots) (IsMarked old)
 refuted_later slots old new grown r = Refutes-from_reached (HeldIn slots) (IsMarked old) (IsMarked new) grown.reached r
 
 -- what a look over the first i numbers keeps
@@ -100,14 +105,17 @@ LooksHold-none slots numbers old new i h holds none = record {
 }
 
 -- the clause of the number forces one more literal
-pub LooksHold-forces : (slots : List (Option (List ℕ))) (numbers old new : List ℕ) (i l : ℕ) (c : List ℕ) → i < length numbers → LooksHold slots numbers old new i
+pub LooksHold-forces : (slots : List (Option (List ℕ))) (numbers old new : List ℕ) (i l : ℕ) (c : List ℕ) → i < length numbers
+    → LooksHold slots numbers old new i
     → IsAt slots (get_or numbers i 0) c → ((d : List ℕ) → IsAt slots (get_or numbers i 0) d → c ≡ d)
     → Forces c (IsMarked new) l → (IsMarked new (opposite_of l) → ⊥) → LooksHold slots numbers old (new ++ l ∷ []) (i + 1)
 LooksHold-forces slots numbers old new i l c h holds here only f free = record {
   grown = GrowsBy-push slots old new c l holds.grown (get_or numbers i 0, here) f free;
   rest = rest_more slots numbers old new (new ++ l ∷ []) i h holds.rest (λ k m. Contains-append_left new (l ∷ []) k m)
       (λ d e. subst (RestsUntil (IsMarked old) (IsMarked (new ++ l ∷ []))) (only d e)
-      (RestsUntil-more (IsMarked new) (IsMarked old) (IsMarked (new ++ l ∷ [])) (IsMarked (new ++ l ∷ [])) c (λ k m. GrowsBy-stays slots old new k holds.grown m) (λ k m. m) (RestsUntil-forced (IsMarked new) (IsMarked (new ++ l ∷ [])) c l f free (Contains-push new l))));
+      (RestsUntil-more (IsMarked new) (IsMarked old) (IsMarked (new ++ l ∷ [])) (IsMarked (new ++ l ∷ [])) c
+      (λ k m. GrowsBy-stays slots old new k holds.grown m) (λ k m. m)
+      (RestsUntil-forced (IsMarked new) (IsMarked (new ++ l ∷ [])) c l f free (Contains-push new l))));
 }
 
 -- the clause of the number rests

@@ -1,5 +1,6 @@
 -- Lists of numbers, one of which is changed.
-use Rattle.std.proofs.Common.{◌≡◌, ◌≢◌, ℕ, ◌<◌, ◌+◌, ◌⊎◌, inl, inr, List, [], ◌∷◌, length, take, get_or, set, filter, not, eqb, Contains, Vec, Global, Bool, true, false, cond, refl, sym, subst, ap, ◌∙◌}
+use Rattle.std.proofs.Common.{◌≡◌, ◌≢◌, ℕ, ◌<◌, ◌+◌, ◌⊎◌, inl, inr, List, [], ◌∷◌, length, take, get_or, set, filter, not, eqb, Contains, Vec, Global, Bool}
+use Rattle.std.proofs.Common.{true, false, cond, refl, sym, subst, ap, ◌∙◌}
 use Rattle.std.proofs.lemmas.Bool.{cases_eq, ne_eqb}
 use Rattle.std.proofs.lemmas.List.{get_or-set_same, get_or-set_other, with_items_is}
 use Rattle.std.specs.Vec.{with_items}
@@ -46,12 +47,14 @@ pub others_kept : (number : ℕ) (v : Vec (List ℕ) Global) (entry now : List (
     → entry ≡ v.items → length entry ≡ v.len → length now ≡ length entry
     → ((l n : ℕ) → n ≢ number → Contains (get_or entry l []) n → Contains (get_or now l []) n)
     → ((n : ℕ) → n ≢ number → Contains short n → Contains new_short n) → ((n : ℕ) → n ≢ number → Contains empty n → Contains new_empty n)
-    → KeepsOthers number (record { by_literal = v.items; short = short; empty = empty }) (record { by_literal = (with_items v now).items; short = new_short; empty = new_empty })
+    → KeepsOthers number (record { by_literal = v.items; short = short; empty = empty })
+    (record { by_literal = (with_items v now).items; short = new_short; empty = new_empty })
 others_kept number v entry now short empty new_short new_empty is len same by_literal short_kept empty_kept =
     let back : (with_items v now).items ≡ now = with_items_is v now (same ∙ len) in
     record {
       same_length = ap length back ∙ (same ∙ ap length is);
-      by_literal = λ l n d m. subst (λ (ls : List (List ℕ)). Contains (get_or ls l []) n) (sym back) (by_literal l n d (subst (λ (ls : List (List ℕ)). Contains (get_or ls l []) n) (sym is) m));
+      by_literal = λ l n d m. subst (λ (ls : List (List ℕ)). Contains (get_or ls l []) n) (sym back)
+          (by_literal l n d (subst (λ (ls : List (List ℕ)). Contains (get_or ls l []) n) (sym is) m));
       short = short_kept;
       empty = empty_kept;
     }

@@ -39,7 +39,8 @@ AllRest-start slots short old new listed rest n c e =
     ]
 
 -- a literal whose opposite the clause hasn't makes no difference
-rests_without : (K L M : ℕ → Type 0) (x : ℕ) (c : List ℕ) → ((k : ℕ) → L k → K k ⊎ (x ≡ k)) → (Contains c (opposite_of x) → ⊥) → RestsUntil K M c → RestsUntil L M c
+rests_without : (K L M : ℕ → Type 0) (x : ℕ) (c : List ℕ) → ((k : ℕ) → L k → K k ⊎ (x ≡ k)) → (Contains c (opposite_of x) → ⊥) → RestsUntil K M c
+    → RestsUntil L M c
 rests_without K L M x c cases none rests = record {
   not_false = λ f. rests.not_false (λ k m. known k m (f k m));
   forced = λ l f. rests.forced l (record { member = f.member; others = λ k m n. known k m (f.others k m n) });
@@ -60,9 +61,12 @@ AllRest-more slots numbers old new done x h is grown settled listed rest n c e =
     let same : take (done + 1) new ≡ take (done + 1) old = ap (take (done + 1)) grown.more.1 ∙ take-append-le (done + 1) old grown.more.0 (omega arith) in
     subst (λ (ls : List ℕ). RestsUntil (Contains ls) (IsMarked new) c) (sym same)
     (elim (contained_or_not c (opposite_of x)) [
-      | inl m ↦ RestsUntil-more (IsMarked old) (Contains (take (done + 1) old)) (IsMarked new) (IsMarked new) c (λ k p. Contains-take old (done + 1) k p) (λ k p. p) (rest n c (listed n c e m) e)
-      | inr none ↦ rests_without (Contains (take done old)) (Contains (take (done + 1) old)) (IsMarked new) x c (λ k p. last k (Contains-take_more_cases old done 0 k h p)) none
-          (RestsUntil-more (Contains (take done old)) (Contains (take done old)) (IsMarked old) (IsMarked new) c (λ k p. p) (λ k p. GrowsBy-stays slots old new k grown p) (settled n c e))
+      | inl m ↦ RestsUntil-more (IsMarked old) (Contains (take (done + 1) old)) (IsMarked new) (IsMarked new) c (λ k p. Contains-take old (done + 1) k p)
+          (λ k p. p) (rest n c (listed n c e m) e)
+      | inr none ↦ rests_without (Contains (take done old)) (Contains (take (done + 1) old)) (IsMarked new) x c
+          (λ k p. last k (Contains-take_more_cases old done 0 k h p)) none
+          (RestsUntil-more (Contains (take done old)) (Contains (take done old)) (IsMarked old) (IsMarked new) c (λ k p. p)
+          (λ k p. GrowsBy-stays slots old new k grown p) (settled n c e))
     ])
   where
     last : (k : ℕ) → Contains (take done old) k ⊎ (get_or old done 0 ≡ k) → Contains (take done old) k ⊎ (x ≡ k)
@@ -76,7 +80,8 @@ settled_not_refuted slots old new done grown all settled r =
     closed_not_refuted (HeldIn slots) (IsMarked old) (IsMarked new) closed (λ l m. GrowsBy-stays slots old new l grown m) r
   where
     rest : (n : ℕ) (c : List ℕ) → IsAt slots n c → Rests (IsMarked new) c
-    rest n c e = RestsUntil-more (Contains (take done new)) (IsMarked new) (IsMarked new) (IsMarked new) c (λ k p. Contains-take_all new done k all p) (λ k p. p) (settled n c e)
+    rest n c e = RestsUntil-more (Contains (take done new)) (IsMarked new) (IsMarked new) (IsMarked new) c (λ k p. Contains-take_all new done k all p)
+        (λ k p. p) (settled n c e)
 
     no_clash : Clashes (HeldIn slots) (IsMarked new) → ⊥
     no_clash (inl (c, s, f)) = (rest s.0 c s.1).not_false f

@@ -1,5 +1,6 @@
 -- The live clauses at places, after one more and after one is taken out.
-use Rattle.std.proofs.Common.{◌≡◌, ◌≢◌, ℕ, zero, suc, ◌<◌, ◌≤◌, ◌+◌, ◌⊎◌, inl, inr, List, [], ◌∷◌, ◌++◌, length, get_or, set, Contains, Option, Some, None, Bool, true, false, cond, not, eqb, refl, sym, ap, ◌∙◌, arith, rules}
+use Rattle.std.proofs.Common.{◌≡◌, ◌≢◌, ℕ, zero, suc, ◌<◌, ◌≤◌, ◌+◌, ◌⊎◌, inl, inr, List, [], ◌∷◌, ◌++◌, length, get_or, set, Contains, Option, Some, None}
+use Rattle.std.proofs.Common.{Bool, true, false, cond, not, eqb, refl, sym, ap, ◌∙◌, arith, rules}
 use Rattle.std.proofs.lemmas.Bool.{cases_eq, cases_lt, ne_eqb}
 use Rattle.std.proofs.lemmas.List.{get_or_past, get_or_append_left, get_or_push, get_or-set_same, get_or-set_other, length_push}
 use Rattle.clause_meaning.proofs.Members.{Contains-nil, Contains-head, Contains-tail, Contains-cons_cases}
@@ -19,20 +20,23 @@ IsAt-one slots n c d e f = cc
 pub IsAt-none : (slots : List (Option (List ℕ))) (n : ℕ) (c : List ℕ) → None ≡ get_or slots n None → IsAt slots n c → ⊥
 IsAt-none slots n c e f = cc
 
-pub IsAt-push_cases : (slots : List (Option (List ℕ))) (d c : List ℕ) (n : ℕ) → IsAt (slots ++ Some d ∷ []) n c → IsAt slots n c ⊎ ((n ≡ length slots) × (d ≡ c))
+pub IsAt-push_cases : (slots : List (Option (List ℕ))) (d c : List ℕ) (n : ℕ) → IsAt (slots ++ Some d ∷ []) n c → IsAt slots n c
+    ⊎ ((n ≡ length slots) × (d ≡ c))
 IsAt-push_cases slots d c n e =
     elim (cases_lt n (length slots)) [
       | inl h ↦ inl (sym (get_or_append_left slots (Some d ∷ []) None n h) ∙ e)
       | inr h ↦ elim (cases_eq n (length slots)) [
         | inl s ↦ (let last = get_or_push slots (Some d) None n (sym s) in inr (s, cc))
-        | inr m ↦ (let long = length_push slots (Some d) in absurd (none_is_not_some (get_or (slots ++ Some d ∷ []) n None) c (get_or_past (slots ++ Some d ∷ []) n None (omega arith)) e))
+        | inr m ↦ (let long = length_push slots (Some d) in absurd (none_is_not_some (get_or (slots ++ Some d ∷ []) n None) c
+            (get_or_past (slots ++ Some d ∷ []) n None (omega arith)) e))
       ]
     ]
 
 pub IsAt-set_cases : (slots : List (Option (List ℕ))) (k n : ℕ) (c : List ℕ) → k < length slots → IsAt (set slots k None) n c → (n ≢ k) × IsAt slots n c
 IsAt-set_cases slots k n c h e =
     elim (cases_eq n k) [
-      | inl s ↦ (let gone = get_or-set_same slots k None None h in let same = ap (λ (i : ℕ). get_or (set slots k None) i None) s in absurd (none_is_not_some (get_or (set slots k None) n None) c (same ∙ gone) e))
+      | inl s ↦ (let gone = get_or-set_same slots k None None h in let same = ap (λ (i : ℕ). get_or (set slots k None) i None) s in
+          absurd (none_is_not_some (get_or (set slots k None) n None) c (same ∙ gone) e))
       | inr m ↦ (m, sym (get_or-set_other slots k n None None m) ∙ e)
     ]
 

@@ -1,5 +1,6 @@
 -- The lists stay complete as clauses come and go, and what a checker shows of the places.
-use Rattle.std.proofs.Common.{◌≡◌, ◌≢◌, ℕ, ◌<◌, ◌+◌, inl, inr, List, [], ◌∷◌, ◌++◌, length, set, Option, Some, None, Bor, IfSome, option_copied, refl, sym, subst, ap, ◌∙◌, arith}
+use Rattle.std.proofs.Common.{◌≡◌, ◌≢◌, ℕ, ◌<◌, ◌+◌, inl, inr, List, [], ◌∷◌, ◌++◌, length, set, Option, Some, None, Bor, IfSome, option_copied, refl, sym}
+use Rattle.std.proofs.Common.{subst, ap, ◌∙◌, arith}
 use Rattle.std.proofs.lemmas.List.{length-set, length_push}
 use Rattle.clause_meaning.specs.Literals.{AreBelow}
 use Rattle.rup_check.specs.State.{Numbered, State, without}
@@ -24,7 +25,8 @@ AreListed-others variables number slots old new e kept keeps = record {
 }
 
 -- one more clause, whose number is in its lists
-pub AreListed-push : (variables number : ℕ) (slots : List (Option (List ℕ))) (d : List ℕ) (old new : Listed) → number ≡ length slots → AreListed variables slots old
+pub AreListed-push : (variables number : ℕ) (slots : List (Option (List ℕ))) (d : List ℕ) (old new : Listed) → number ≡ length slots
+    → AreListed variables slots old
     → KeepsOthers number old new → IsListed new number d → AreBelow variables d → AreListed variables (slots ++ Some d ∷ []) new
 AreListed-push variables number slots d old new e kept keeps last in_range = record {
   in_range = λ n c is. elim (IsAt-push_cases slots d c n is) [
@@ -58,7 +60,8 @@ shown-push variables slots c made is =
     let live : live_from 0 (slots ++ Some c ∷ []) ≡ live_from 0 slots ++ record { number = length slots; literals = c } ∷ [] =
     live_from-push 0 slots c ∙ ap (λ (n : ℕ). live_from 0 slots ++ record { number = n; literals = c } ∷ []) (omega arith) in
     is ∙ (ap (λ (l : List Numbered). record { variables = variables; live = l; next = length (slots ++ Some c ∷ []) }) live
-    ∙ ap (λ (n : ℕ). record { variables = variables; live = live_from 0 slots ++ record { number = length slots; literals = c } ∷ []; next = n }) (length_push slots (Some c)))
+    ∙ ap (λ (n : ℕ). record { variables = variables; live = live_from 0 slots ++ record { number = length slots; literals = c } ∷ []; next = n })
+    (length_push slots (Some c)))
 
 -- what is shown after one clause less
 pub shown-free : (variables k : ℕ) (slots : List (Option (List ℕ))) (made : State) → k < length slots

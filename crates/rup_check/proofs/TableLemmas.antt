@@ -1,5 +1,6 @@
 -- The table of marks beside the list of marked literals.
-use Rattle.std.proofs.Common.{◌≡◌, ℕ, suc, ◌<◌, ◌+◌, ◌⊎◌, inl, inr, ◌↔◌, List, [], ◌∷◌, ◌++◌, length, take, get_or, set, Contains, All, replicate, Bool, true, false, cond, refl, sym, subst, ◌∙◌, arith}
+use Rattle.std.proofs.Common.{◌≡◌, ℕ, suc, ◌<◌, ◌+◌, ◌⊎◌, inl, inr, ◌↔◌, List, [], ◌∷◌, ◌++◌, length, take, get_or, set, Contains, All, replicate, Bool, true}
+use Rattle.std.proofs.Common.{false, cond, refl, sym, subst, ◌∙◌, arith}
 use Rattle.std.proofs.lemmas.Bool.{cases_lt, false≢true, true≢false, false_from_ne_true}
 use Rattle.std.proofs.lemmas.List.{get_or-replicate, get_or_past, get_or_default, length-replicate, length-set, length_push}
 use Rattle.std.proofs.lemmas.List.Sums.{sum_by-set, count_by-le-length}
@@ -11,7 +12,8 @@ use Rattle.rup_check.specs.Table.{mark_count, Agrees}
 
 mark_count-set : (table : List Bool) (l : ℕ) → l < length table → (HasMark table l → ⊥) → mark_count (set table l true) ≡ mark_count table + 1
 mark_count-set table l below free =
-    counted (mark_count (set table l true)) (mark_count table) (get_or table l false) (false_from_ne_true (get_or table l false) free) (sum_by-set (λ (mark : Bool). cond mark 1 0) table l true false below)
+    counted (mark_count (set table l true)) (mark_count table) (get_or table l false) (false_from_ne_true (get_or table l false) free)
+    (sum_by-set (λ (mark : Bool). cond mark 1 0) table l true false below)
   where
     counted : (n m : ℕ) (b : Bool) → b ≡ false → n + cond b 1 0 ≡ m + 1 → n ≡ m + 1
     counted n m true e h = absurd (true≢false e)
@@ -39,7 +41,8 @@ Agrees-push table literals l agrees below new = record {
 }
 
 -- a literal that isn't listed leaves room
-pub fewer : (table : List Bool) (literals : List ℕ) (l : ℕ) → Agrees table literals → l < length table → (Contains literals l → ⊥) → length literals < length table
+pub fewer : (table : List Bool) (literals : List ℕ) (l : ℕ) → Agrees table literals → l < length table → (Contains literals l → ⊥)
+    → length literals < length table
 fewer table literals l agrees below new =
     let more = mark_count-set table l below (λ m. new ((agrees.same l).0 m)) in
     let few = count_by-le-length (λ (mark : Bool). mark) (set table l true) in

@@ -9,7 +9,5 @@ mod marks;
 mod numbers;
 mod propagation;
 mod slot;
-#[cfg(test)]
-mod tests;
 
 pub use checker::Checker;

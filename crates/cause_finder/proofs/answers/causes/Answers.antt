@@ -25,9 +25,11 @@ pub returns-clause-exact : goal.returns-clause-exact
 returns-clause-exact c = λ q closes conflicts.
     let are = subst (AreSupports c.args.index.now c.args.closure.now) (sym c.deref.ensures.value) c.in_ok-supports.ensures.exact in
     let closure = c.closing_list_is_closure.ensures c.args.axioms.now q c.args.closure.now c.derived.ensures.exact closes in
-    are_answers c.args.axioms.now c.args.index.now q c.args.closure.now closure c.deref.result.now are c.args.conflicts.now c.in_ok-candidates_of.field-0.items c.distinct.ensures.exact conflicts c.in_ok-candidates_of.ensures.exact
+    are_answers c.args.axioms.now c.args.index.now q c.args.closure.now closure c.deref.result.now are c.args.conflicts.now
+    c.in_ok-candidates_of.field-0.items c.distinct.ensures.exact conflicts c.in_ok-candidates_of.ensures.exact
 
 pub returns-clause-within : goal.returns-clause-within
 returns-clause-within c = λ q closes.
     let closure = c.closing_list_is_closure.ensures c.args.axioms.now q c.args.closure.now c.derived.ensures.exact closes in
-    no_more_supports c.args.axioms.now c.args.index.now q c.args.closure.now closure c.in_ok-supports.supports.items c.in_ok-supports.ensures.exact c.args.limit c.in_ok-supports.ensures.few
+    no_more_supports c.args.axioms.now c.args.index.now q c.args.closure.now closure c.in_ok-supports.supports.items c.in_ok-supports.ensures.exact
+    c.args.limit c.in_ok-supports.ensures.few

@@ -12,15 +12,18 @@ pub loop-hit-preserved : goal.loop-hit-preserved
 loop-hit-preserved c =
     let hits = c.deref-hit-items.result.now in
     let are = subst (AreHits c.args.index.now c.args.query.now) (sym c.deref-hit-items.ensures.value) c.in_ok-hits.ensures.exact in (
-      adds_hit c.args.index.now c.args.query.now c.args.place c.args.found.now.keys c.loop-hit.found.keys c.add.new.found.keys hits c.loop-hit.hit-index c.hit-item.result c.loop-hit-test.true c.hit-item.is are c.loop-hit.invariant.0 c.add.ensures.only,
-      found_more c.loop-hit.found.keys c.add.new.found.keys hits c.loop-hit.hit-index c.hit-item.result c.loop-hit-test.true c.hit-item.is c.add.ensures.only.kept c.in_ok-add.ensures.there c.loop-hit.invariant.1,
+      adds_hit c.args.index.now c.args.query.now c.args.place c.args.found.now.keys c.loop-hit.found.keys c.add.new.found.keys hits c.loop-hit.hit-index
+          c.hit-item.result c.loop-hit-test.true c.hit-item.is are c.loop-hit.invariant.0 c.add.ensures.only,
+      found_more c.loop-hit.found.keys c.add.new.found.keys hits c.loop-hit.hit-index c.hit-item.result c.loop-hit-test.true c.hit-item.is
+          c.add.ensures.only.kept c.in_ok-add.ensures.there c.loop-hit.invariant.1,
       c.in_ok-add.ensures.few,
     )
 
 pub returns-in_err-add-clause-only : goal.returns-in_err-add-clause-only
 returns-in_err-add-clause-only c =
     let are = subst (AreHits c.args.index.now c.args.query.now) (sym c.deref-hit-items.ensures.value) c.in_ok-hits.ensures.exact in
-    adds_hit c.args.index.now c.args.query.now c.args.place c.args.found.now.keys c.loop-hit.found.keys c.add.new.found.keys c.deref-hit-items.result.now c.loop-hit.hit-index c.hit-item.result c.loop-hit-test.true c.hit-item.is are c.loop-hit.invariant.0 c.add.ensures.only
+    adds_hit c.args.index.now c.args.query.now c.args.place c.args.found.now.keys c.loop-hit.found.keys c.add.new.found.keys c.deref-hit-items.result.now
+    c.loop-hit.hit-index c.hit-item.result c.loop-hit-test.true c.hit-item.is are c.loop-hit.invariant.0 c.add.ensures.only
 
 pub returns-in_err-add-clause-too_many : goal.returns-in_err-add-clause-too_many
 returns-in_err-add-clause-too_many c = λ refused.
@@ -31,4 +34,5 @@ returns-in_err-add-clause-too_many c = λ refused.
 pub returns-clause-all : goal.returns-clause-all
 returns-clause-all c =
     let are = subst (AreHits c.args.index.now c.args.query.now) (sym c.deref-hit-items.ensures.value) c.in_ok-hits.ensures.exact in
-    found_all c.args.index.now c.args.query.now c.loop-hit.found.keys c.deref-hit-items.result.now c.loop-hit.hit-index c.loop-hit-test.false are c.loop-hit.invariant.1
+    found_all c.args.index.now c.args.query.now c.loop-hit.found.keys c.deref-hit-items.result.now c.loop-hit.hit-index c.loop-hit-test.false are
+    c.loop-hit.invariant.1

@@ -16,7 +16,8 @@ has_longer_part-has_part_in-requires t c =
     let cut = c.in-Some.ensures.cases in (
       omega (arith, c.decreases, cut.1),
       (
-        same_narrowed c.args.depth f m c.args.size c.args.group.now c.split.result.0.now c.split.result.1.now c.split.ensures.exact c.requires.narrowed c.requires.longer,
+        same_narrowed c.args.depth f m c.args.size c.args.group.now c.split.result.0.now c.split.result.1.now c.split.ensures.exact c.requires.narrowed
+            c.requires.longer,
         (rest_ascends f m (subst IsAscending cut.0 c.requires.ascending), omega (arith, cut.1, c.requires.within)),
       ),
     )
@@ -28,7 +29,8 @@ has_longer_part-returns-then-has_part_in t c =
     record {
       exact = (
         (λ yes. subst (λ (xs : List ℕ). HasPartFrom c.args.depth xs c.args.size c.args.group.now) (sym c.in-Some.ensures.cases.0)
-            (part_same c.args.depth f m c.args.size c.args.group.now c.split.result.0.now c.split.result.1.now c.split.ensures.exact c.requires.narrowed c.requires.longer (c.has_part_in.ensures.exact.0 c.if-has_part_in.true))),
+            (part_same c.args.depth f m c.args.size c.args.group.now c.split.result.0.now c.split.result.1.now c.split.ensures.exact c.requires.narrowed
+            c.requires.longer (c.has_part_in.ensures.exact.0 c.if-has_part_in.true))),
         λ h. refl,
       );
     }
@@ -40,9 +42,11 @@ has_longer_part-has_longer_part-requires t c =
     let cut = c.in-Some.ensures.cases in (
       omega (arith, c.decreases, cut.1),
       (
-        above_narrowed c.args.depth f m c.args.size c.args.group.now c.split.result.0.now c.split.result.1.now c.split.ensures.exact c.requires.narrowed c.requires.longer,
+        above_narrowed c.args.depth f m c.args.size c.args.group.now c.split.result.0.now c.split.result.1.now c.split.ensures.exact c.requires.narrowed
+            c.requires.longer,
         (
-          above_longer c.args.depth f m c.args.size c.args.group.now c.split.result.0.now c.split.result.1.now c.split.ensures.exact c.requires.narrowed c.requires.longer,
+          above_longer c.args.depth f m c.args.size c.args.group.now c.split.result.0.now c.split.result.1.now c.split.ensures.exact c.requires.narrowed
+              c.requires.longer,
           (rest_ascends f m (subst IsAscending cut.0 c.requires.ascending), omega (arith, cut.1, c.requires.within)),
         ),
       ),
@@ -56,8 +60,10 @@ has_longer_part-returns t c =
     record {
       exact = (
         (λ yes. subst (λ (xs : List ℕ). HasPartFrom c.args.depth xs c.args.size c.args.group.now) (sym cut.0)
-            (part_above c.args.depth f m c.args.size c.args.group.now c.split.result.0.now c.split.result.1.now c.split.ensures.exact c.requires.narrowed c.requires.longer (c.has_longer_part.ensures.exact.0 yes))),
-        λ h. elim (part_either c.args.depth f m c.args.size c.args.group.now c.split.result.0.now c.split.result.1.now c.split.ensures.exact c.requires.narrowed c.requires.longer (subst IsAscending cut.0 c.requires.ascending)
+            (part_above c.args.depth f m c.args.size c.args.group.now c.split.result.0.now c.split.result.1.now c.split.ensures.exact c.requires.narrowed
+            c.requires.longer (c.has_longer_part.ensures.exact.0 yes))),
+        λ h. elim (part_either c.args.depth f m c.args.size c.args.group.now c.split.result.0.now c.split.result.1.now c.split.ensures.exact
+            c.requires.narrowed c.requires.longer (subst IsAscending cut.0 c.requires.ascending)
             (subst (λ (xs : List ℕ). HasPartFrom c.args.depth xs c.args.size c.args.group.now) cut.0 h)) [
               | inl p ↦ absurd (let yes = c.has_part_in.ensures.exact.1 p in cc (yes, c.if-has_part_in.false))
               | inr p ↦ c.has_longer_part.ensures.exact.1 p
@@ -73,7 +79,8 @@ has_part_in-has_longer_part-requires t c =
       (
         c.requires.narrowed,
         (
-          subst (λ (xs : List Support). All (λ (s : Support). c.args.depth < length s.image) xs) (sym cut) (all_longer c.args.depth c.in-Some.first.now c.in-Some._more.now (subst (AreNarrowed c.args.depth) cut c.requires.narrowed) long),
+          subst (λ (xs : List Support). All (λ (s : Support). c.args.depth < length s.image) xs) (sym cut)
+              (all_longer c.args.depth c.in-Some.first.now c.in-Some._more.now (subst (AreNarrowed c.args.depth) cut c.requires.narrowed) long),
           (c.requires.ascending, c.requires.within),
         ),
       ),

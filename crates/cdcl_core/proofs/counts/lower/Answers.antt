@@ -13,15 +13,18 @@ vanish-requires-clause-in_range c =
 
 pub vanish-requires-clause-counted : goal.vanish-requires-clause-counted
 vanish-requires-clause-counted c =
-    lower_counted c.args.trail.now c.loop-literal.trail c.args.literals.now c.loop-literal.literal-index c.variable_of.result c.loop-literal-test.true c.variable_of.ensures
+    lower_counted c.args.trail.now c.loop-literal.trail c.args.literals.now c.loop-literal.literal-index c.variable_of.result c.loop-literal-test.true
+    c.variable_of.ensures
     c.requires.counted c.loop-literal.invariant.lowered
 
 pub loop-literal-preserved : goal.loop-literal-preserved
 loop-literal-preserved c = record {
-  lowered = lowered_more c.args.trail.now c.loop-literal.trail c.vanish.new.self c.args.literals.now c.loop-literal.literal-index c.variable_of.result c.loop-literal-test.true c.variable_of.ensures
+  lowered = lowered_more c.args.trail.now c.loop-literal.trail c.vanish.new.self c.args.literals.now c.loop-literal.literal-index c.variable_of.result
+      c.loop-literal-test.true c.variable_of.ensures
       c.loop-literal.invariant.lowered c.vanish.ensures.exact c.vanish.ensures.lowered;
   only = subst (OnlyCounts c.args.trail.now) (sym c.vanish.ensures.exact)
-      (OnlyCounts-count c.args.trail.now c.loop-literal.trail c.variable_of.result (count_of c.loop-literal.trail c.variable_of.result - 1) c.loop-literal.invariant.only);
+      (OnlyCounts-count c.args.trail.now c.loop-literal.trail c.variable_of.result (count_of c.loop-literal.trail c.variable_of.result - 1)
+      c.loop-literal.invariant.only);
 }
 
 pub returns-clause-lowered : goal.returns-clause-lowered

@@ -13,17 +13,20 @@ occur-requires-clause-in_range c =
 
 pub occur-requires-clause-room : goal.occur-requires-clause-room
 occur-requires-clause-room c =
-    let same = raise_room c.args.trail.now c.loop-literal.trail c.args.literals.now c.loop-literal.literal-index c.variable_of.result c.requires.distinct c.loop-literal-test.true c.variable_of.ensures
+    let same = raise_room c.args.trail.now c.loop-literal.trail c.args.literals.now c.loop-literal.literal-index c.variable_of.result c.requires.distinct
+    c.loop-literal-test.true c.variable_of.ensures
     c.loop-literal.invariant.raised in
     let room = c.requires.room c.variable_of.result in
     omega (arith, same, room)
 
 pub loop-literal-preserved : goal.loop-literal-preserved
 loop-literal-preserved c = record {
-  raised = raised_more c.args.trail.now c.loop-literal.trail c.occur.new.self c.args.literals.now c.loop-literal.literal-index c.variable_of.result c.loop-literal-test.true c.variable_of.ensures
+  raised = raised_more c.args.trail.now c.loop-literal.trail c.occur.new.self c.args.literals.now c.loop-literal.literal-index c.variable_of.result
+      c.loop-literal-test.true c.variable_of.ensures
       c.loop-literal.invariant.raised c.occur.ensures.exact c.occur.ensures.raised;
   only = subst (OnlyCounts c.args.trail.now) (sym c.occur.ensures.exact)
-      (OnlyCounts-count c.args.trail.now c.loop-literal.trail c.variable_of.result (count_of c.loop-literal.trail c.variable_of.result + 1) c.loop-literal.invariant.only);
+      (OnlyCounts-count c.args.trail.now c.loop-literal.trail c.variable_of.result (count_of c.loop-literal.trail c.variable_of.result + 1)
+      c.loop-literal.invariant.only);
 }
 
 pub returns-clause-raised : goal.returns-clause-raised

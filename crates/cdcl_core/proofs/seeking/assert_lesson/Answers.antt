@@ -12,7 +12,8 @@ pub fix-requires-clause-unassigned : goal.fix-requires-clause-unassigned
 fix-requires-clause-unassigned c =
     let lesson = c.args.lesson.now in
     let after = c.requires.after.1 in
-    lesson_unassigned c.args.trail.now c.backjump.new.self c.requires.after.0 lesson.literals.items lesson.asserting lesson.back after.searching after.lesson c.backjump.ensures.exact
+    lesson_unassigned c.args.trail.now c.backjump.new.self c.requires.after.0 lesson.literals.items lesson.asserting lesson.back after.searching after.lesson
+    c.backjump.ensures.exact
 
 pub force-requires-clause-in_range : goal.force-requires-clause-in_range
 force-requires-clause-in_range c =
@@ -22,7 +23,8 @@ pub force-requires-clause-unassigned : goal.force-requires-clause-unassigned
 force-requires-clause-unassigned c =
     let lesson = c.args.lesson.now in
     let after = c.requires.after.1 in
-    lesson_unassigned c.args.trail.now c.backjump.new.self c.requires.after.0 lesson.literals.items lesson.asserting lesson.back after.searching after.lesson c.backjump.ensures.exact
+    lesson_unassigned c.args.trail.now c.backjump.new.self c.requires.after.0 lesson.literals.items lesson.asserting lesson.back after.searching after.lesson
+    c.backjump.ensures.exact
 
 pub returns-then-len-eq1-clause-seeks : goal.returns-then-len-eq1-clause-seeks
 returns-then-len-eq1-clause-seeks c before was assume assumed seeks only after counted =
@@ -30,9 +32,11 @@ returns-then-len-eq1-clause-seeks c before was assume assumed seeks only after c
     let old = c.args.trail.now in
     let cut = c.backjump.new.self in
     let arena = c.args.arena.now in
-    let b = IsBack-cut assume old cut before arena c.args.clause lesson.literals.items lesson.asserting lesson.back assumed (SeeksApart-counts assume was old before assumed seeks only) after c.backjump.ensures.exact
+    let b = IsBack-cut assume old cut before arena c.args.clause lesson.literals.items lesson.asserting lesson.back assumed
+    (SeeksApart-counts assume was old before assumed seeks only) after c.backjump.ensures.exact
     (c.backjump.ensures.fits before after.searching.fits) counted in
-    Seeks-unit assume old cut c.fix.new.self before arena c.args.clause lesson.literals.items lesson.asserting lesson.back (min assumed lesson.back) b after c.backjump.ensures.exact
+    Seeks-unit assume old cut c.fix.new.self before arena c.args.clause lesson.literals.items lesson.asserting lesson.back (min assumed lesson.back) b after
+    c.backjump.ensures.exact
     (omega (arith, c.len.ensures, c.if-len-eq1.true)) c.fix.ensures.exact (c.fix.ensures.fits arena b.searching.fits)
 
 pub returns-else-len-eq1-clause-seeks : goal.returns-else-len-eq1-clause-seeks
@@ -41,9 +45,13 @@ returns-else-len-eq1-clause-seeks c before was assume assumed seeks only after c
     let old = c.args.trail.now in
     let cut = c.backjump.new.self in
     let arena = c.args.arena.now in
-    let b = IsBack-cut assume old cut before arena c.args.clause lesson.literals.items lesson.asserting lesson.back assumed (SeeksApart-counts assume was old before assumed seeks only) after c.backjump.ensures.exact
+    let b = IsBack-cut assume old cut before arena c.args.clause lesson.literals.items lesson.asserting lesson.back assumed
+    (SeeksApart-counts assume was old before assumed seeks only) after c.backjump.ensures.exact
     (c.backjump.ensures.fits before after.searching.fits) counted in
-    let long : 2 ≤ length lesson.literals.items = lesson_long before old arena c.args.clause lesson.literals.items lesson.asserting lesson.back after (λ one. c.if-len-eq1.false (omega (arith, c.len.ensures, one))) in
-    Seeks-forced assume old cut c.force.new.self before arena c.args.clause lesson.literals.items lesson.asserting lesson.back (min assumed lesson.back) b after c.backjump.ensures.exact
+    let long : 2 ≤ length lesson.literals.items = lesson_long before old arena c.args.clause lesson.literals.items lesson.asserting lesson.back after
+    (λ one. c.if-len-eq1.false (omega (arith, c.len.ensures, one))) in
+    Seeks-forced assume old cut c.force.new.self before arena c.args.clause lesson.literals.items lesson.asserting lesson.back (min assumed lesson.back) b
+    after c.backjump.ensures.exact
     long c.force.ensures.exact
-    (c.force.ensures.fits arena b.searching.fits (lesson_reason old cut before arena c.args.clause lesson.literals.items lesson.asserting lesson.back after.lesson c.backjump.ensures.exact after.holds long))
+    (c.force.ensures.fits arena b.searching.fits (lesson_reason old cut before arena c.args.clause lesson.literals.items lesson.asserting lesson.back
+    after.lesson c.backjump.ensures.exact after.holds long))

@@ -10,4 +10,5 @@ loop-at-preserved c =
 
 pub returns-clause-stand : goal.returns-clause-stand
 returns-clause-stand c told =
-    UnitsStand-all c.args.trail.now c.loop-at.trail c.args.arena.now (subst (UnitsHold c.args.trail.now c.loop-at.trail c.args.arena.now) c.in_default.is c.loop-at.invariant)
+    UnitsStand-all c.args.trail.now c.loop-at.trail c.args.arena.now
+    (subst (UnitsHold c.args.trail.now c.loop-at.trail c.args.arena.now) c.in_default.is c.loop-at.invariant)

@@ -19,14 +19,16 @@ returns-in-IsFalse-clause-steps c =
 pub returns-in-IsOpen-clause-steps : goal.returns-in-IsOpen-clause-steps
 returns-in-IsOpen-clause-steps c =
     let asked = subst (Asks c.args.trail.now.entries c.args.assume.now) c.in-IsOpen.is c.ask.ensures in
-    step_decides c.args.assume.now c.args.trail.now c.decide.new.self c.args.arena.now c.args.assumed c.in-IsOpen.literal c.level.result c.requires.seeks c.requires.complete asked.0 asked.1
+    step_decides c.args.assume.now c.args.trail.now c.decide.new.self c.args.arena.now c.args.assumed c.in-IsOpen.literal c.level.result c.requires.seeks
+    c.requires.complete asked.0 asked.1
     c.decide.ensures.exact (c.decide.ensures.fits c.args.arena.now c.requires.seeks.searching.fits) c.level.ensures.exact
 
 pub returns-then-guess-clause-steps : goal.returns-then-guess-clause-steps
 returns-then-guess-clause-steps c =
     let asked = subst (Asks c.args.trail.now.entries c.args.assume.now) c.in-AreTrue.is c.ask.ensures in
     step_guesses c.args.assume.now c.args.trail.now c.guess.new.trail c.args.arena.now c.args.assumed c.requires.seeks c.requires.complete asked
-    (subst (Guesses c.args.trail.now c.guess.new.trail) c.if-guess.true c.guess.ensures.guesses) (c.guess.ensures.fits c.args.arena.now c.requires.seeks.searching.fits)
+    (subst (Guesses c.args.trail.now c.guess.new.trail) c.if-guess.true c.guess.ensures.guesses)
+    (c.guess.ensures.fits c.args.arena.now c.requires.seeks.searching.fits)
 
 pub returns-else-guess-clause-steps : goal.returns-else-guess-clause-steps
 returns-else-guess-clause-steps c =

@@ -8,7 +8,8 @@ use Rattle.cdcl_core.proofs.store.drop_if.Goals as goal
 
 pub returns-then-not-takes-clause-exact : goal.returns-then-not-takes-clause-exact
 returns-then-not-takes-clause-exact c = (
-  λ literals named. subst (λ (ls : List ℕ). is_taken c.args.which (record { number = c.args.number; literals = ls }) ≡ false) (sym (c.view-literals.ensures.only literals named))
+  λ literals named. subst (λ (ls : List ℕ). is_taken c.args.which (record { number = c.args.number; literals = ls }) ≡ false)
+      (sym (c.view-literals.ensures.only literals named))
       (sym c.takes.ensures ∙ c.if-not-takes.true),
   refl,
 )
@@ -25,7 +26,8 @@ lower-requires-clause-counted c v =
 
 pub returns-clause-exact : goal.returns-clause-exact
 returns-clause-exact c = (
-  λ literals named. subst (λ (ls : List ℕ). is_taken c.args.which (record { number = c.args.number; literals = ls }) ≡ true) (sym (c.view-literals.ensures.only literals named))
+  λ literals named. subst (λ (ls : List ℕ). is_taken c.args.which (record { number = c.args.number; literals = ls }) ≡ true)
+      (sym (c.view-literals.ensures.only literals named))
       (sym c.takes.ensures ∙ c.if-not-takes.false),
   c.drop_clause.ensures.exact.live,
 )

@@ -10,4 +10,5 @@ loop-label-preserved c =
     let i = c.loop-label.label-index in
     let none : Label = record { number = None; goes = false } in
     c.in_ok-push_number.ensures
-    ∙ (ap (λ (xs : List ℕ). xs ++ put_number (get_or labels i none).number []) c.loop-label.invariant ∙ sym (numbers_on_more labels i none c.loop-label-test.true))
+    ∙ (ap (λ (xs : List ℕ). xs ++ put_number (get_or labels i none).number []) c.loop-label.invariant
+    ∙ sym (numbers_on_more labels i none c.loop-label-test.true))

@@ -4,7 +4,8 @@ use Rattle.cdcl_trail.proofs.branching.best_of.Goals as goal
 
 pub loop-variable-preserved : goal.loop-variable-preserved
 loop-variable-preserved c =
-    IsPick-more (IsOpen c.args.assigned.now.entries c.args.branching.now.counts) c.args.variables.now c.loop-variable.variable-index c.loop-variable.best c.better-best.result
+    IsPick-more (IsOpen c.args.assigned.now.entries c.args.branching.now.counts) c.args.variables.now c.loop-variable.variable-index c.loop-variable.best
+    c.better-best.result
     c.loop-variable-test.true c.loop-variable.invariant c.better-best.ensures
 
 pub returns : goal.returns

@@ -45,10 +45,12 @@ loop-literal-preserved c =
           (λ m. both_ways c.is_true.result w.if-not-is_true.true (c.is_true.ensures.1 (subst K (sym c.opposite.ensures) m))))
       | then-not-is_true+in-Some+else-other-literal w ↦
           subst (IsOnlyFree K (take (i + 1) clause)) (sym w.free-is)
-          (IsOnlyFree-more_same K clause i w.in-Some.other c.loop-literal-test.true w.if-other-literal.false (subst (IsOnlyFree K (take i clause)) w.in-Some.is c.loop-literal.invariant))
+          (IsOnlyFree-more_same K clause i w.in-Some.other c.loop-literal-test.true w.if-other-literal.false
+          (subst (IsOnlyFree K (take i clause)) w.in-Some.is c.loop-literal.invariant))
       | else-not-is_true w ↦
           subst (IsOnlyFree K (take (i + 1) clause)) (sym w.free-is)
-          (IsOnlyFree-more_false K clause i c.loop-literal.free c.loop-literal-test.true c.loop-literal.invariant (subst K c.opposite.ensures (c.is_true.ensures.0 w.if-not-is_true.false)))
+          (IsOnlyFree-more_false K clause i c.loop-literal.free c.loop-literal-test.true c.loop-literal.invariant
+          (subst K c.opposite.ensures (c.is_true.ensures.0 w.if-not-is_true.false)))
     ]
 
 pub returns-in-None-free : goal.returns-in-None-free

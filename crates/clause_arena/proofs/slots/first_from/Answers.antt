@@ -14,7 +14,8 @@ returns-then-not-is_empty c =
     let full = items_from_full slot.literals (sym c.is_empty.ensures ∙ c.if-not-is_empty.true) in
     let is : get_or (contents slots) place [] ≡ slot.literals.items = contents_at slots place c.index-slots-place.result c.loop-place-test.true in
     let held = named_slot (contents slots) place (subst (λ n. place < n) (sym (length-contents slots)) c.loop-place-test.true) (λ z. full (sym is ∙ z)) in
-    subst (λ (r : ℕ). (c.args.low ≤ r) × (r < 2 ^ 64) × Any (λ (h : HeldClause). h.reference ≡ r) (held_from 0 (contents slots)) × All (λ (h : HeldClause). h.reference < r → h.reference < c.args.low) (held_from 0 (contents slots))) (sym c.reference_of.ensures) (
+    subst (λ (r : ℕ). (c.args.low ≤ r) × (r < 2 ^ 64) × Any (λ (h : HeldClause). h.reference ≡ r) (held_from 0 (contents slots))
+    × All (λ (h : HeldClause). h.reference < r → h.reference < c.args.low) (held_from 0 (contents slots))) (sym c.reference_of.ensures) (
       c.loop-place.auto.place,
       omega arith,
       (held.0, _, held.1, held.2, refl),
@@ -28,7 +29,8 @@ loop-place-preserved c h m below =
     let slot = get_or slots place c.index-slots-place.result in
     let none = items_from_empty slot.literals (sym c.is_empty.ensures ∙ c.if-not-is_empty.false) in
     elim (cases_eq h.reference place) [
-      | inl e ↦ absurd ((held_slot (contents slots) h m).1 (ap (λ (k : ℕ). get_or (contents slots) k []) e ∙ (contents_at slots place c.index-slots-place.result c.loop-place-test.true ∙ none)))
+      | inl e ↦ absurd ((held_slot (contents slots) h m).1 (ap (λ (k : ℕ). get_or (contents slots) k []) e
+          ∙ (contents_at slots place c.index-slots-place.result c.loop-place-test.true ∙ none)))
       | inr n ↦ c.loop-place.invariant h m (omega arith)
     ]
 

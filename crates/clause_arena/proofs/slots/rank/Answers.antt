@@ -11,7 +11,14 @@ loop-place-preserved c =
     let place = c.loop-place.place in
     let was = c.index_mut.result.now in
     let slot : Slot = record { literals = was.literals; rank = c.loop-place.count } in
-    let below : place < length slots = omega (arith, c.loop-place-test.true, c.len-place-end.ensures, c.loop-place.auto.place-end, h.len, c.loop-place.slots.ok.0) in
+    let below : place < length slots = omega (
+      arith,
+      c.loop-place-test.true,
+      c.len-place-end.ensures,
+      c.loop-place.auto.place-end,
+      h.len,
+      c.loop-place.slots.ok.0,
+    ) in
     let now : c.index.result.now ≡ slot = c.index.ensures ∙ get_or-set_same slots place slot c.index.result.now below in
     record {
       ranks = RanksTo-more c.args.slots.now.items slots c.loop-place.count place c.clauses-count.result slot was h.ranks below

@@ -13,16 +13,20 @@ pub view-requires : goal.view-requires
 view-requires c =
     let entries = c.args.trail.now.entries in
     record {
-      live = reason_live c.args.trail.now c.args.arena.now c.args.place c.args.literal c.in-Some.reason c.requires.searching c.requires.distinct c.requires.place c.requires.at
-          (subst (λ (v : ℕ). IsReasonOf entries v (Some c.in-Some.reason)) c.variable_of.ensures (subst (IsReasonOf entries c.variable_of.result) c.in-Some.is c.reason.ensures.exact));
+      live = reason_live c.args.trail.now c.args.arena.now c.args.place c.args.literal c.in-Some.reason c.requires.searching c.requires.distinct
+          c.requires.place c.requires.at
+          (subst (λ (v : ℕ). IsReasonOf entries v (Some c.in-Some.reason)) c.variable_of.ensures
+          (subst (IsReasonOf entries c.variable_of.result) c.in-Some.is c.reason.ensures.exact));
     }
 
 pub unreachable-requires : goal.unreachable-requires
 unreachable-requires c =
     let entries = c.args.trail.now.entries in
     let (literals, shows, r, member, other) = c.requires.resolvent in
-    has_reason c.args.trail.now c.args.arena.now literals c.args.place c.args.literal c.requires.searching c.requires.distinct c.requires.guessed c.requires.place
-    r c.requires.at other (subst (λ (v : ℕ). IsReasonOf entries v None) c.variable_of.ensures (subst (IsReasonOf entries c.variable_of.result) c.in-None.is c.reason.ensures.exact))
+    has_reason c.args.trail.now c.args.arena.now literals c.args.place c.args.literal c.requires.searching c.requires.distinct c.requires.guessed
+    c.requires.place
+    r c.requires.at other (subst (λ (v : ℕ). IsReasonOf entries v None) c.variable_of.ensures
+    (subst (IsReasonOf entries c.variable_of.result) c.in-None.is c.reason.ensures.exact))
 
 pub take_out-requires-clause-within : goal.take_out-requires-clause-within
 take_out-requires-clause-within c =
@@ -34,7 +38,8 @@ pub take_out-requires-clause-some : goal.take_out-requires-clause-some
 take_out-requires-clause-some c =
     let (literals, shows, r, member, other) = c.requires.resolvent in
     counted_some c.args.trail.now c.args.resolvent.now literals c.args.literal shows member
-    (on_level_here c.args.trail.now c.args.arena.now literals c.args.place c.args.literal c.requires.searching c.requires.distinct c.requires.place r c.requires.at)
+    (on_level_here c.args.trail.now c.args.arena.now literals c.args.place c.args.literal c.requires.searching c.requires.distinct c.requires.place r
+    c.requires.at)
 
 pub join-requires-clause-covered : goal.join-requires-clause-covered
 join-requires-clause-covered c =
@@ -42,7 +47,8 @@ join-requires-clause-covered c =
     let marks = c.args.resolvent.now.marks.items in
     IsCovered-less c.args.trail.now.variables c.args.resolvent.now c.take_out.new.resolvent c.requires.covered
     (ap length c.take_out.ensures.marks ∙ length-set marks c.args.literal false)
-    (λ k m. (HasMark-gone_cases marks c.args.literal k (HasMark-below marks c.args.literal (shows.has c.args.literal member)) (subst (λ (xs : List Bool). HasMark xs k) c.take_out.ensures.marks m)).1)
+    (λ k m. (HasMark-gone_cases marks c.args.literal k (HasMark-below marks c.args.literal (shows.has c.args.literal member))
+    (subst (λ (xs : List Bool). HasMark xs k) c.take_out.ensures.marks m)).1)
     c.take_out.ensures.touched (omega (arith, c.take_out.ensures.newest))
 
 pub returns-clause-holds : goal.returns-clause-holds
@@ -60,6 +66,7 @@ returns-clause-holds c =
       shows_next,
       resolved trail arena literals middle next c.view.result.now c.args.place q c.in-Some.reason
           c.requires.searching c.requires.distinct c.requires.place r c.requires.at member other
-          (subst (λ (v : ℕ). IsReasonOf entries v (Some c.in-Some.reason)) c.variable_of.ensures (subst (IsReasonOf entries c.variable_of.result) c.in-Some.is c.reason.ensures.exact))
+          (subst (λ (v : ℕ). IsReasonOf entries v (Some c.in-Some.reason)) c.variable_of.ensures
+          (subst (IsReasonOf entries c.variable_of.result) c.in-Some.is c.reason.ensures.exact))
           c.view.ensures.only c.view.ensures.in_range (TakesOut-filter literals middle q refl) joins,
     )

@@ -50,19 +50,23 @@ unreachable-requires c =
 pub returns-in_err-literals-clause-covered : goal.returns-in_err-literals-clause-covered
 returns-in_err-literals-clause-covered c =
     let r = c.look_back.new.resolvent in
-    let back : (with_items r.marks c.list_marked.new.marks).items ≡ c.list_marked.new.marks = with_items_is r.marks c.list_marked.new.marks (c.list_marked.ensures.same_length ∙ c.deref_mut.ensures.len) in
+    let back : (with_items r.marks c.list_marked.new.marks).items ≡ c.list_marked.new.marks =
+    with_items_is r.marks c.list_marked.new.marks (c.list_marked.ensures.same_length ∙ c.deref_mut.ensures.len) in
     IsCovered-less c.args.trail.now.variables r _ c.look_back.ensures.covered
     (ap length back ∙ (c.list_marked.ensures.same_length ∙ ap length c.deref_mut.ensures.value))
-    (λ k m. subst (λ (xs : List Bool). HasMark xs k) c.deref_mut.ensures.value (c.list_marked.ensures.stays k (subst (λ (xs : List Bool). HasMark xs k) back m)))
+    (λ k m. subst (λ (xs : List Bool). HasMark xs k) c.deref_mut.ensures.value
+    (c.list_marked.ensures.stays k (subst (λ (xs : List Bool). HasMark xs k) back m)))
     refl (omega (arith))
 
 pub returns-in-Some-clause-covered : goal.returns-in-Some-clause-covered
 returns-in-Some-clause-covered c =
     let r = c.look_back.new.resolvent in
-    let back : (with_items r.marks c.list_marked.new.marks).items ≡ c.list_marked.new.marks = with_items_is r.marks c.list_marked.new.marks (c.list_marked.ensures.same_length ∙ c.deref_mut.ensures.len) in
+    let back : (with_items r.marks c.list_marked.new.marks).items ≡ c.list_marked.new.marks =
+    with_items_is r.marks c.list_marked.new.marks (c.list_marked.ensures.same_length ∙ c.deref_mut.ensures.len) in
     IsCovered-less c.args.trail.now.variables r _ c.look_back.ensures.covered
     (ap length back ∙ (c.list_marked.ensures.same_length ∙ ap length c.deref_mut.ensures.value))
-    (λ k m. subst (λ (xs : List Bool). HasMark xs k) c.deref_mut.ensures.value (c.list_marked.ensures.stays k (subst (λ (xs : List Bool). HasMark xs k) back m)))
+    (λ k m. subst (λ (xs : List Bool). HasMark xs k) c.deref_mut.ensures.value
+    (c.list_marked.ensures.stays k (subst (λ (xs : List Bool). HasMark xs k) back m)))
     refl (omega (arith))
 
 pub highest_other-back-requires-clause-in_range : goal.highest_other-back-requires-clause-in_range
@@ -73,7 +77,8 @@ highest_other-back-requires-clause-in_range c =
     let clause = c.in_ok-literals.literals.items in
     let place = c.loop-place.place - 1 in
     let ends = subst (LooksBack trail arena r place) c.in-Some.is c.in_ok-asserting.ensures.looks in
-    let found = listed_resolvent trail arena r (place + 1) c.in-Some.asserting c.deref_mut.result.now c.deref.result.now c.list_marked.new.marks clause c.deref_mut.ensures.value
+    let found = listed_resolvent trail arena r (place + 1) c.in-Some.asserting c.deref_mut.result.now c.deref.result.now c.list_marked.new.marks clause
+    c.deref_mut.ensures.value
     c.deref.ensures.value c.look_back.ensures.covered ends c.in_ok-literals.ensures.lists in
     subst (AreBelow trail.variables) (sym c.deref-in-Some.ensures.value) (resolvent_below trail arena clause (place + 1) found.0)
 
@@ -85,7 +90,8 @@ highest_other-back-requires-clause-refuted c =
     let clause = c.in_ok-literals.literals.items in
     let place = c.loop-place.place - 1 in
     let ends = subst (LooksBack trail arena r place) c.in-Some.is c.in_ok-asserting.ensures.looks in
-    let found = listed_resolvent trail arena r (place + 1) c.in-Some.asserting c.deref_mut.result.now c.deref.result.now c.list_marked.new.marks clause c.deref_mut.ensures.value
+    let found = listed_resolvent trail arena r (place + 1) c.in-Some.asserting c.deref_mut.result.now c.deref.result.now c.list_marked.new.marks clause
+    c.deref_mut.ensures.value
     c.deref.ensures.value c.look_back.ensures.covered ends c.in_ok-literals.ensures.lists in
     subst (All (λ (k : ℕ). IsTrueOn trail.entries (opposite_of k))) (sym c.deref-in-Some.ensures.value) (resolvent_false trail arena clause (place + 1) found.0)
 
@@ -102,5 +108,7 @@ returns-in-Some-clause-exact c =
     let found = listed_resolvent trail arena r (place + 1) q c.deref_mut.result.now c.deref.result.now c.list_marked.new.marks clause c.deref_mut.ensures.value
     c.deref.ensures.value c.look_back.ensures.covered ends c.in_ok-literals.ensures.lists in
     lesson_found trail arena clause (place + 1) q back c.requires.searching c.literals-place.ensures.distinct c.requires.guessed found.0 found.1 found.2
-    (subst (λ (xs : List ℕ). (k : ℕ) → Contains xs k → k ≢ q → IsKnownAt trail.entries back (opposite_of k)) c.deref-in-Some.ensures.value c.highest_other-back.ensures.known)
-    (subst (λ (xs : List ℕ). (back ≡ 0) ⊎ ((k : ℕ) × Contains xs k × (k ≢ q) × BecameFalse trail.entries back k)) c.deref-in-Some.ensures.value c.highest_other-back.ensures.reached)
+    (subst (λ (xs : List ℕ). (k : ℕ) → Contains xs k → k ≢ q → IsKnownAt trail.entries back (opposite_of k)) c.deref-in-Some.ensures.value
+    c.highest_other-back.ensures.known)
+    (subst (λ (xs : List ℕ). (back ≡ 0) ⊎ ((k : ℕ) × Contains xs k × (k ≢ q) × BecameFalse trail.entries back k)) c.deref-in-Some.ensures.value
+    c.highest_other-back.ensures.reached)

@@ -19,7 +19,8 @@ loop-literal-preserved c =
       same_length = c.list_one.ensures.same_length ∙ c.loop-literal.invariant.same_length;
       lists = (
         l ∷ done,
-        λ k m. elim (Contains-take_more_cases c.args.touched.now i 0 k c.loop-literal-test.true m) [ inl t ↦ Contains-tail l done k (has k t) | inr e ↦ Contains-head l done k e ],
+        λ k m. elim (Contains-take_more_cases c.args.touched.now i 0 k c.loop-literal-test.true m)
+            [ inl t ↦ Contains-tail l done k (has k t) | inr e ↦ Contains-head l done k e ],
         c.in_ok-list_one.ensures.lists c.args.marks.now done lists,
       );
     }

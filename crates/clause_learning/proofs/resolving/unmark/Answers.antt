@@ -20,4 +20,5 @@ loop-literal-preserved c =
     }
 
 pub returns-clause-gone : goal.returns-clause-gone
-returns-clause-gone c = λ l m at. c.loop-literal.invariant.gone l m (Contains-take_all c.args.touched.now c.loop-literal.literal-index l c.loop-literal-test.false at)
+returns-clause-gone c = λ l m at. c.loop-literal.invariant.gone l m
+    (Contains-take_all c.args.touched.now c.loop-literal.literal-index l c.loop-literal-test.false at)

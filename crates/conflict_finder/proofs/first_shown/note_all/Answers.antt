@@ -6,8 +6,12 @@ loop-key-init c = noted_none c.args.keys.now c.args.source c.args.shown.now.entr
 
 pub loop-key-preserved : goal.loop-key-preserved
 loop-key-preserved c =
-    noted_more c.args.keys.now c.args.source c.args.shown.now.entries c.loop-key.key-index _ (item_at c.args.keys.now c.loop-key.key-index _ c.loop-key-test.true)
+    noted_more c.args.keys.now c.args.source c.args.shown.now.entries c.loop-key.key-index _
+    (item_at c.args.keys.now c.loop-key.key-index _ c.loop-key-test.true)
     c.loop-key.shown.entries c.note.new.shown.entries c.loop-key.invariant c.in_ok-note.ensures.adds
 
 pub returns : goal.returns
-returns c = record { adds = noted_all c.args.keys.now c.args.source c.args.shown.now.entries c.loop-key.key-index c.loop-key-test.false c.loop-key.shown.entries c.loop-key.invariant }
+returns c = record {
+  adds = noted_all c.args.keys.now c.args.source c.args.shown.now.entries c.loop-key.key-index c.loop-key-test.false
+      c.loop-key.shown.entries c.loop-key.invariant;
+}

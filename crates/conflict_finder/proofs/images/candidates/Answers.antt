@@ -16,8 +16,10 @@ returns-then-not-same_predicate-clause-complete c = λ q n e l h. absurd (
 pub returns-clause-complete : goal.returns-clause-complete
 returns-clause-complete c = λ q n e l h.
     let first = Contains-slice_get c.args.body.now 0 c.in-Some.first.now (sym c.in-Some.ensures.value) in
-    (c.with_predicate.ensures.exact n).1 (atom_there c.args.index.now q n h c.in-Some.first.now (subst (λ (atoms : List QAtom). Contains atoms c.in-Some.first.now) (sym e) first))
+    (c.with_predicate.ensures.exact n).1 (atom_there c.args.index.now q n h c.in-Some.first.now
+    (subst (λ (atoms : List QAtom). Contains atoms c.in-Some.first.now) (sym e) first))
 
 pub returns-clause-named : goal.returns-clause-named
 returns-clause-named c =
-    All-of (λ n. n < length c.args.index.now) c.with_predicate.result.now (λ n there. let w = (c.with_predicate.ensures.exact n).0 there in slice_get_within c.args.index.now n w.0 w.2)
+    All-of (λ n. n < length c.args.index.now) c.with_predicate.result.now
+    (λ n there. let w = (c.with_predicate.ensures.exact n).0 there in slice_get_within c.args.index.now n w.0 w.2)

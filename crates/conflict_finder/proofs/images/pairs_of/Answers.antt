@@ -11,7 +11,8 @@ loop-hit-preserved c =
     let h : Hit = c.hit-item.result in
     let at : slice_get hits n ≡ Some h = item_at hits n h c.loop-hit-test.true ∙ ap Some (sym c.hit-item.is) in
     elim c.match-key_of.branch [
-      | in-Some+in_ok-push w ↦ rw w.keys-is (rw w.in_ok-push.ensures.items (pair_found hits c.args.numbers.now n h at c.loop-hit.keys.items c.loop-hit.invariant w.in-Some.key w.in-Some.ensures.found))
+      | in-Some+in_ok-push w ↦ rw w.keys-is (rw w.in_ok-push.ensures.items
+          (pair_found hits c.args.numbers.now n h at c.loop-hit.keys.items c.loop-hit.invariant w.in-Some.key w.in-Some.ensures.found))
       | in_default w ↦ rw w.keys-is (pair_kept hits c.args.numbers.now n h at c.loop-hit.keys.items c.loop-hit.invariant w.in_default.ensures.none)
     ]
 

@@ -10,7 +10,8 @@ pub loop-number-preserved : goal.loop-number-preserved
 loop-number-preserved c =
     let n = c.loop-number.number in
     elim c.if-not-contains_key.branch [
-      | then-not-contains_key+in_ok-push w ↦ rw w.numbers-is (rw w.in_ok-push.ensures.items (others_new c.args.shown.now.entries n c.loop-number.numbers.items c.loop-number.invariant
+      | then-not-contains_key+in_ok-push w ↦ rw w.numbers-is (rw w.in_ok-push.ensures.items
+          (others_new c.args.shown.now.entries n c.loop-number.numbers.items c.loop-number.invariant
           (has_no_key (One n) c.args.shown.now.entries (sym c.contains_key.ensures ∙ w.if-not-contains_key.true))))
       | else-not-contains_key w ↦ rw w.numbers-is (others_shown c.args.shown.now.entries n c.loop-number.numbers.items c.loop-number.invariant
           (has_key (One n) c.args.shown.now.entries (sym c.contains_key.ensures ∙ w.if-not-contains_key.false)))

@@ -24,11 +24,13 @@ loop-closure-preserved c =
     let item : ℕ × List Member = c.closure-item.result in
     let found : slice_get closures i ≡ Some item = slice_get-get_or closures i item c.loop-closure-test.true ∙ ap Some (sym c.closure-item.is) in
     let at : slice_get closures i ≡ Some (item.0, c.members.result.now) = found ∙ ap (λ (ms : List Member). Some (item.0, ms)) (sym c.members.ensures.lent) in
-    let before = enters c.args.pass.now.index.now closures c.args.pass.now.sought c.args.pass.now.numbers.now c.args.shown.now.entries c.requires.ascending i item.0 c.members.result.now at c.loop-closure.shown.entries c.loop-closure.invariant.so in
+    let before = enters c.args.pass.now.index.now closures c.args.pass.now.sought c.args.pass.now.numbers.now c.args.shown.now.entries c.requires.ascending i
+    item.0 c.members.result.now at c.loop-closure.shown.entries c.loop-closure.invariant.so in
     let there : Contains closures (item.0, c.members.result.now) = Contains-slice_get closures i (item.0, c.members.result.now) at in
     record {
       few = c.in_ok-scan_members.ensures.few;
-      so = rw (← next i) (leaves c.args.pass.now.index.now closures c.args.pass.now.sought c.args.pass.now.numbers.now c.args.shown.now.entries c.requires.ascending i item.0 c.members.result.now at c.scan_members.new.shown.entries
+      so = rw (← next i) (leaves c.args.pass.now.index.now closures c.args.pass.now.sought c.args.pass.now.numbers.now c.args.shown.now.entries
+          c.requires.ascending i item.0 c.members.result.now at c.scan_members.new.shown.entries
           (c.in_ok-scan_members.ensures.shown closures c.args.shown.now.entries there c.requires.ascending before));
     }
 
@@ -40,10 +42,12 @@ returns-in_err-scan_members-clause-many c = λ e.
     let item : ℕ × List Member = c.closure-item.result in
     let found : slice_get closures i ≡ Some item = slice_get-get_or closures i item c.loop-closure-test.true ∙ ap Some (sym c.closure-item.is) in
     let at : slice_get closures i ≡ Some (item.0, c.members.result.now) = found ∙ ap (λ (ms : List Member). Some (item.0, ms)) (sym c.members.ensures.lent) in
-    let before = enters c.args.pass.now.index.now closures c.args.pass.now.sought c.args.pass.now.numbers.now c.args.shown.now.entries c.requires.ascending i item.0 c.members.result.now at c.loop-closure.shown.entries c.loop-closure.invariant.so in
+    let before = enters c.args.pass.now.index.now closures c.args.pass.now.sought c.args.pass.now.numbers.now c.args.shown.now.entries c.requires.ascending i
+    item.0 c.members.result.now at c.loop-closure.shown.entries c.loop-closure.invariant.so in
     let there : Contains closures (item.0, c.members.result.now) = Contains-slice_get closures i (item.0, c.members.result.now) at in
     c.in_err-scan_members.ensures.many closures c.args.shown.now.entries there c.requires.ascending before (cc (is, same, e))
 
 pub returns-clause-shown : goal.returns-clause-shown
 returns-clause-shown c =
-    scanned_all c.args.pass.now.index.now c.args.closures.now c.args.pass.now.sought c.args.pass.now.numbers.now c.args.shown.now.entries c.loop-closure.closure-index (omega (arith, c.loop-closure-test.false)) c.loop-closure.shown.entries c.loop-closure.invariant.so
+    scanned_all c.args.pass.now.index.now c.args.closures.now c.args.pass.now.sought c.args.pass.now.numbers.now c.args.shown.now.entries
+    c.loop-closure.closure-index (omega (arith, c.loop-closure-test.false)) c.loop-closure.shown.entries c.loop-closure.invariant.so

@@ -18,9 +18,12 @@ loop-member-preserved c =
       place = omega (arith, c.loop-member.invariant.place);
       few = c.in_ok-scan_query.ensures.few;
       so = λ closures first there a s.
-          subst (λ n. IsScanned c.args.pass.now.index.now closures c.args.pass.now.sought c.args.pass.now.numbers.now (IsEarlier c.args.rule n) first c.scan_query.new.shown.entries) (next i)
-          (scanned_more c.args.pass.now.index.now closures c.args.pass.now.sought c.args.pass.now.numbers.now first c.args.rule i c.args.members.now m there at a c.loop-member.shown.entries
-          (c.loop-member.invariant.so closures first there a s) (record { rule = c.args.rule; member = c.loop-member.place }) refl c.loop-member.invariant.place c.scan_query.new.shown.entries c.in_ok-scan_query.ensures.adds);
+          subst (λ n. IsScanned c.args.pass.now.index.now closures c.args.pass.now.sought c.args.pass.now.numbers.now (IsEarlier c.args.rule n) first
+          c.scan_query.new.shown.entries) (next i)
+          (scanned_more c.args.pass.now.index.now closures c.args.pass.now.sought c.args.pass.now.numbers.now first c.args.rule i c.args.members.now m there
+          at a c.loop-member.shown.entries
+          (c.loop-member.invariant.so closures first there a s) (record { rule = c.args.rule; member = c.loop-member.place }) refl
+          c.loop-member.invariant.place c.scan_query.new.shown.entries c.in_ok-scan_query.ensures.adds);
     }
   where
     next : (n : ℕ) → suc n ≡ n + 1
@@ -32,11 +35,13 @@ returns-in_err-scan_query-clause-many c = λ closures first there a s e.
     let i = c.loop-member.member-index in
     let m : Member = c.member-item.result in
     let at : slice_get c.args.members.now i ≡ Some m = slice_get-get_or c.args.members.now i m c.loop-member-test.true ∙ ap Some (sym c.member-item.is) in
-    scanned_many c.args.pass.now.index.now closures c.args.pass.now.sought c.args.pass.now.numbers.now first c.args.rule i c.args.members.now m there at a c.loop-member.shown.entries
+    scanned_many c.args.pass.now.index.now closures c.args.pass.now.sought c.args.pass.now.numbers.now first c.args.rule i c.args.members.now m there at a
+    c.loop-member.shown.entries
     (c.loop-member.invariant.so closures first there a s) c.args.pass.now.limit (c.in_err-scan_query.ensures.many (cc (is, same, e)))
 
 pub returns-clause-shown : goal.returns-clause-shown
 returns-clause-shown c = λ closures first there a s.
     let i = c.loop-member.member-index in
-    subst (λ n. IsScanned c.args.pass.now.index.now closures c.args.pass.now.sought c.args.pass.now.numbers.now (IsEarlier c.args.rule n) first c.loop-member.shown.entries) (omega (arith, c.loop-member-test.false))
+    subst (λ n. IsScanned c.args.pass.now.index.now closures c.args.pass.now.sought c.args.pass.now.numbers.now (IsEarlier c.args.rule n) first
+    c.loop-member.shown.entries) (omega (arith, c.loop-member-test.false))
     (c.loop-member.invariant.so closures first there a s)

@@ -13,16 +13,20 @@ pub returns-in_err-write_all-clause-part : goal.returns-in_err-write_all-clause-
 returns-in_err-write_all-clause-part g c =
     let w = c.in_err-write_all.ensures.part in
     let l : c.loop-piece.piece-index < length c.args.pieces.now = omega arith in
-    OnErr-of c.from_residual.result (written_part (λ piece. piece.now) c.args.pieces.now c.loop-piece.piece-index _ l _ _ _ c.loop-piece.invariant.0 w.count w.part)
+    OnErr-of c.from_residual.result (written_part (λ piece. piece.now) c.args.pieces.now c.loop-piece.piece-index _ l _ _ _ c.loop-piece.invariant.0 w.count
+    w.part)
 
 pub returns-in_err-write_all-clause-fault : goal.returns-in_err-write_all-clause-fault
 returns-in_err-write_all-clause-fault g c =
-    TellsFault-failed _ _ _ c.from_residual.ensures.0 (subst (λ n. CountsFault n (g.S.Sink.faults c.write_all.new.self)) c.loop-piece.invariant.1 c.in_err-write_all.ensures.fault)
+    TellsFault-failed _ _ _ c.from_residual.ensures.0 (subst (λ n. CountsFault n (g.S.Sink.faults c.write_all.new.self)) c.loop-piece.invariant.1
+    c.in_err-write_all.ensures.fault)
 
 pub loop-piece-preserved : goal.loop-piece-preserved
 loop-piece-preserved g c =
-    let l : c.loop-piece.piece-index < length c.args.pieces.now = omega arith in
-    (written_more (λ piece. piece.now) c.args.pieces.now c.loop-piece.piece-index _ l _ _ _ c.loop-piece.invariant.0 c.in_ok-write_all.ensures.exact, c.in_ok-write_all.ensures.fault ∙ c.loop-piece.invariant.1)
+    let l : c.loop-piece.piece-index < length c.args.pieces.now = omega arith in (
+      written_more (λ piece. piece.now) c.args.pieces.now c.loop-piece.piece-index _ l _ _ _ c.loop-piece.invariant.0 c.in_ok-write_all.ensures.exact,
+      c.in_ok-write_all.ensures.fault ∙ c.loop-piece.invariant.1,
+    )
 
 pub returns-clause-exact : goal.returns-clause-exact
 returns-clause-exact g c =

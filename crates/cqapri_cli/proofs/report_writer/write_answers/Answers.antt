@@ -25,9 +25,12 @@ returns-in_err-write_answer-clause-written g c =
     let new = g.O.Sink.written c.write_answer.new.report.sink.now in
     let answer = get_or answers i no_answer in
     let inside : i < length lists = omega (arith, c.loop-place-test.true, c.requires.sizes) in
-    let more = lines-more texts 0 answers lists i c.loop-place.brave no_answer here c.loop-place-test.true inside (omega (arith, c.loop-place.invariant.brave)) in
-    let part = subst (λ x. StopsBy e mid new (lines_of_one texts c.loop-place.brave answer x)) c.index-conflicts-place.is c.in_err-write_answer.ensures.written in
-    let first = stopped_later e old mid new (lines_of texts 0 (take i answers) (take i lists)) (lines_of_one texts c.loop-place.brave answer (get_or lists i here)) c.loop-place.invariant.written part in
+    let more = lines-more texts 0 answers lists i c.loop-place.brave no_answer here c.loop-place-test.true inside
+    (omega (arith, c.loop-place.invariant.brave)) in
+    let part = subst (λ x. StopsBy e mid new (lines_of_one texts c.loop-place.brave answer x)) c.index-conflicts-place.is
+    c.in_err-write_answer.ensures.written in
+    let first = stopped_later e old mid new (lines_of texts 0 (take i answers) (take i lists))
+    (lines_of_one texts c.loop-place.brave answer (get_or lists i here)) c.loop-place.invariant.written part in
     let begin = lines-begin texts 0 answers lists (i + 1) in
     let all = stopped e old new (lines_of texts 0 (take (i + 1) answers) (take (i + 1) lists)) begin.0 (subst (StopsBy e old new) (sym more) first) in
     passed_on c.from_residual.result e old new (lines_of texts 0 answers lists) c.from_residual.ensures.1 (subst (StopsBy e old new) begin.1 all)
@@ -44,9 +47,12 @@ loop-place-preserved g c =
     let new = g.O.Sink.written c.write_answer.new.report.sink.now in
     let answer = get_or answers i no_answer in
     let inside : i < length lists = omega (arith, c.loop-place-test.true, c.requires.sizes) in
-    let more = lines-more texts 0 answers lists i c.loop-place.brave no_answer here c.loop-place-test.true inside (omega (arith, c.loop-place.invariant.brave)) in
-    let one = subst (λ x. new ≡ appended mid (bytes_of (lines_of_one texts c.loop-place.brave answer x))) c.index-conflicts-place.is c.in_ok-write_answer.ensures.written in
-    let all = all_lines old mid new (lines_of texts 0 (take i answers) (take i lists)) (lines_of_one texts c.loop-place.brave answer (get_or lists i here)) c.loop-place.invariant.written one in
+    let more = lines-more texts 0 answers lists i c.loop-place.brave no_answer here c.loop-place-test.true inside
+    (omega (arith, c.loop-place.invariant.brave)) in
+    let one = subst (λ x. new ≡ appended mid (bytes_of (lines_of_one texts c.loop-place.brave answer x))) c.index-conflicts-place.is
+    c.in_ok-write_answer.ensures.written in
+    let all = all_lines old mid new (lines_of texts 0 (take i answers) (take i lists)) (lines_of_one texts c.loop-place.brave answer (get_or lists i here))
+    c.loop-place.invariant.written one in
     record {
       written = all ∙ ap (λ lines. appended old (bytes_of lines)) (sym more);
       faults = c.in_ok-write_answer.ensures.fault ∙ c.loop-place.invariant.faults;

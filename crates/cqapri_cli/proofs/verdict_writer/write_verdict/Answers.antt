@@ -4,4 +4,5 @@ use Rattle.cqapri_cli.proofs.verdict_writer.write_verdict.Goals as goal
 
 pub returns-clause-part : goal.returns-clause-part
 returns-clause-part g c =
-    OnErr-of c.flush.result (all_first (g.O.Sink.written c.args.out.now) (g.O.Sink.written c.write_line.new.out) (g.O.Sink.written c.flush.new.self) (verdict_text c.args.verdict) c.in_ok-write_line.ensures.exact c.flush.ensures.same_bytes)
+    OnErr-of c.flush.result (all_first (g.O.Sink.written c.args.out.now) (g.O.Sink.written c.write_line.new.out) (g.O.Sink.written c.flush.new.self)
+    (verdict_text c.args.verdict) c.in_ok-write_line.ensures.exact c.flush.ensures.same_bytes)

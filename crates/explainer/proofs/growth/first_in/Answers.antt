@@ -13,4 +13,5 @@ pub loop-number-preserved : goal.loop-number-preserved
 loop-number-preserved c = below_more _ _ c.loop-number.invariant (λ m. true≢false (sym (c.if-has_sorted.ensures.exact.1 m)))
 
 pub unreachable-requires : goal.unreachable-requires
-unreachable-requires c = meets_none c.args.numbers.now c.args.list.now c.loop-number.number-index c.loop-number-test.false c.loop-number.invariant c.requires.some
+unreachable-requires c = meets_none c.args.numbers.now c.args.list.now c.loop-number.number-index c.loop-number-test.false c.loop-number.invariant
+    c.requires.some

@@ -9,7 +9,8 @@ use Rattle.explainer.proofs.missing_facts.least_outside.Goals.{then-not-has_sort
 pub loop-fact-preserved : goal.loop-fact-preserved
 loop-fact-preserved c =
     elim c.if-not-has_sorted.branch [
-      | then-not-has_sorted w ↦ rw w.least-is (least_more c.args.present.now c.args.cause.now c.loop-fact.fact-index c.loop-fact-test.true c.loop-fact.least w.lesser.result
+      | then-not-has_sorted w ↦ rw w.least-is (least_more c.args.present.now c.args.cause.now c.loop-fact.fact-index c.loop-fact-test.true c.loop-fact.least
+          w.lesser.result
           (λ m. false≢true (w.if-not-has_sorted.ensures.exact.1 m)) c.loop-fact.invariant w.lesser.ensures)
       | else-not-has_sorted w ↦ rw w.least-is (least_same c.args.present.now c.args.cause.now c.loop-fact.fact-index c.loop-fact-test.true c.loop-fact.least
           (w.if-not-has_sorted.ensures.exact.0 refl) c.loop-fact.invariant)
@@ -17,5 +18,6 @@ loop-fact-preserved c =
 
 pub returns : goal.returns
 returns c = record {
-  exact = subst (λ (xs : List ℕ). IsLeastOrNone c.args.present.now xs c.loop-fact.least) (take_all c.loop-fact.fact-index c.args.cause.now c.loop-fact-test.false) c.loop-fact.invariant;
+  exact = subst (λ (xs : List ℕ). IsLeastOrNone c.args.present.now xs c.loop-fact.least)
+      (take_all c.loop-fact.fact-index c.args.cause.now c.loop-fact-test.false) c.loop-fact.invariant;
 }

@@ -15,8 +15,10 @@ pub loop-cause-preserved : goal.loop-cause-preserved
 loop-cause-preserved c =
     let k = c.loop-cause.cause-index in
     let items = c.as_slice-cause-items.result.now in
-    let same : c.as_slice.result.now ≡ get_or items k [] = cause_at items items k c.cause-item.result _ refl c.loop-cause-test.true c.cause-item.is c.as_slice.ensures.lent in
-    rw c.in_ok-push.ensures.items (least_of_more items c.args.present.now c.loop-cause.facts.items k c.in-Some.fact c.loop-cause-test.true c.loop-cause.invariant (rw same at c.in-Some.ensures.exact))
+    let same : c.as_slice.result.now ≡ get_or items k [] = cause_at items items k c.cause-item.result _ refl c.loop-cause-test.true c.cause-item.is
+    c.as_slice.ensures.lent in
+    rw c.in_ok-push.ensures.items (least_of_more items c.args.present.now c.loop-cause.facts.items k c.in-Some.fact c.loop-cause-test.true
+    c.loop-cause.invariant (rw same at c.in-Some.ensures.exact))
 
 pub returns-clause-found : goal.returns-clause-found
 returns-clause-found c = subst (λ (xs : List (List ℕ)). AreMissing xs c.args.present.now c.in_ok-facts.facts) c.as_slice-cause-items.ensures.lent

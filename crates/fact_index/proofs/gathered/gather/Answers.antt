@@ -12,4 +12,5 @@ loop-number-preserved c = record {
 
 pub returns-clause-few : goal.returns-clause-few
 returns-clause-few c =
-    few_entries c.loop-number.gathered.places.keys c.loop-number.gathered.entries.items c.args.facts.now (c.loop-number.invariant.exact ∙ ap (told_of 0) (take_all c.loop-number.number c.args.facts.now c.loop-number-test.false))
+    few_entries c.loop-number.gathered.places.keys c.loop-number.gathered.entries.items c.args.facts.now
+    (c.loop-number.invariant.exact ∙ ap (told_of 0) (take_all c.loop-number.number c.args.facts.now c.loop-number-test.false))

@@ -6,5 +6,7 @@ use Rattle.matching_tests.proofs.chance.put.Goals as goal
 
 pub returns : goal.returns
 returns c =
-    let more = distinct_push c.args.facts.now.items c.args.fact c.requires.distinct (λ there. let is = c.has.ensures.exact.1 (subst (λ (xs : List Fact). Contains xs c.args.fact) (sym c.deref.ensures.value) there) in cc (is, c.if-has.false)) in
+    let more = distinct_push c.args.facts.now.items c.args.fact c.requires.distinct
+    (λ there. let is = c.has.ensures.exact.1 (subst (λ (xs : List Fact). Contains xs c.args.fact) (sym c.deref.ensures.value) there) in
+    cc (is, c.if-has.false)) in
     record { distinct = subst AreDistinct (sym c.in_ok-push.ensures.items) more }

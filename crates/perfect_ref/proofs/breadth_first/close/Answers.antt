@@ -15,16 +15,19 @@ begins : (q r : Query) (members : List Member) → members ≡ record { query = 
 begins q r members e f = (record { query = r; step = None }, ap (λ (xs : List Member). slice_get xs 0) e, f)
 
 -- a list of one member is the beginning of the search
-found : (axioms : List Axiom) (limit : ℕ) (q r : Query) (members : List Member) → members ≡ record { query = r; step = None } ∷ [] → r ≡ normal q → AreFound axioms limit 0 (record { query = normal q; step = None } ∷ []) → AreFound axioms limit 0 members
+found : (axioms : List Axiom) (limit : ℕ) (q r : Query) (members : List Member) → members ≡ record { query = r; step = None } ∷ [] → r ≡ normal q
+    → AreFound axioms limit 0 (record { query = normal q; step = None } ∷ []) → AreFound axioms limit 0 members
 found axioms limit q r members e f so =
     subst (AreFound axioms limit 0) (sym e) (subst (λ (x : Query). AreFound axioms limit 0 (record { query = x; step = None } ∷ [])) (sym f) so)
 
 pub returns-then-limit-eq0-clause-refused : goal.returns-then-limit-eq0-clause-refused
-returns-then-limit-eq0-clause-refused c = λ e. subst (HasMoreThan c.args.axioms.now c.args.query.now) (sym c.if-limit-eq0.true) (none_fits c.args.axioms.now c.args.query.now)
+returns-then-limit-eq0-clause-refused c = λ e. subst (HasMoreThan c.args.axioms.now c.args.query.now) (sym c.if-limit-eq0.true)
+    (none_fits c.args.axioms.now c.args.query.now)
 
 pub handle_all-requires-clause-found : goal.handle_all-requires-clause-found
 handle_all-requires-clause-found c =
-    found c.args.axioms.now c.args.limit c.args.query.now c.in_ok-normal.field-0 c.in_ok-found.found.closure c.in_ok-found.ensures.exact c.in_ok-normal.ensures.exact
+    found c.args.axioms.now c.args.limit c.args.query.now c.in_ok-normal.field-0 c.in_ok-found.found.closure c.in_ok-found.ensures.exact
+    c.in_ok-normal.ensures.exact
     (first_found c.args.axioms.now c.args.limit c.args.query.now (omega arith) c.requires.atoms_fit)
 
 pub returns-in_err-handle_all-clause-refused : goal.returns-in_err-handle_all-clause-refused

@@ -13,5 +13,11 @@ returns-clause-refused c = λ q derived e.
     let read = rw c.members-members.ensures.lent at c.index-members-from.is in
     let at : slice_get members c.args.from ≡ Some p = slice_get-get_or members c.args.from p c.requires.place ∙ ap Some (sym read) in
     let turn : IsTurn c.args.axioms.now c.args.limit c.args.from p c.in_ok-moves.moves.items members =
-    record { at = at; successors = subst (λ (w : Member). AreSuccessors c.args.axioms.now w.query c.in_ok-moves.moves.items) (sym c.index-members-from.is) c.in_ok-moves.ensures.exact; found = c.requires.found; behind = c.requires.behind } in
+    record {
+      at = at;
+      successors = subst (λ (w : Member). AreSuccessors c.args.axioms.now w.query c.in_ok-moves.moves.items) (sym c.index-members-from.is)
+          c.in_ok-moves.ensures.exact;
+      found = c.requires.found;
+      behind = c.requires.behind;
+    } in
     c.note_all.ensures.refused c.args.axioms.now p q turn derived e

@@ -19,7 +19,11 @@ returns-then-image-body c =
               let short = image_short a.facts.now a.query.now a.tuple.now a.image.now c.len-count.ensures.distinct h in
               omega (arith, short, w.if-image-body.true, ap length c.body.ensures.lent)
           | then-image-body-via-else-image-body+then-not-are_fact_numbers w ↦
-              let is = w.are_fact_numbers.ensures.exact.1 (h.ascending, subst (λ n. All (λ i. i < n) a.image.now) (sym c.len-count.ensures.exact) (image_named a.facts.now a.query.now a.tuple.now a.image.now h)) in
+              let is = w.are_fact_numbers.ensures.exact.1 (
+                h.ascending,
+                subst (λ n. All (λ i. i < n) a.image.now) (sym c.len-count.ensures.exact)
+                    (image_named a.facts.now a.query.now a.tuple.now a.image.now h),
+              ) in
               cc (is, w.if-not-are_fact_numbers.true)
         ])),
       );
@@ -31,18 +35,33 @@ bind_head-requires c = record { consistent = nothing_bound c.new-walk.result.bin
 pub returns-then-not-branch : goal.returns-then-not-branch
 returns-then-not-branch c =
     let a = c.args in
-    let binds : Binds (λ v. HeadIs v c.head.result.now a.tuple.now) NoVariable c.new-walk.result.bindings.items c.bind_head.new.bindings.items false = rw c.if-not-branch.true at c.in_ok-bind_head.ensures.exact in
-    record { exact = ((λ h. cc h), (λ h. absurd (no_head a.facts.now a.query.now a.tuple.now a.image.now c.len-count.ensures.distinct c.head.result.now c.body.result.now c.new-walk.result.bindings.items c.bind_head.new.bindings.items c.new-walk.result.path.items c.head.ensures.lent c.body.ensures.lent c.new-walk.ensures.bindings c.new-walk.ensures.path binds h))) }
+    let binds : Binds (λ v. HeadIs v c.head.result.now a.tuple.now) NoVariable c.new-walk.result.bindings.items c.bind_head.new.bindings.items false =
+    rw c.if-not-branch.true at c.in_ok-bind_head.ensures.exact in
+    record {
+      exact = (
+        (λ h. cc h),
+        (λ h. absurd (no_head a.facts.now a.query.now a.tuple.now a.image.now c.len-count.ensures.distinct c.head.result.now
+            c.body.result.now c.new-walk.result.bindings.items c.bind_head.new.bindings.items c.new-walk.result.path.items c.head.ensures.lent
+            c.body.ensures.lent
+            c.new-walk.ensures.bindings c.new-walk.ensures.path binds h)),
+      );
+    }
 
 pub returns : goal.returns
 returns c =
     let a = c.args in
-    let binds : Binds (λ v. HeadIs v c.head.result.now a.tuple.now) NoVariable c.new-walk.result.bindings.items c.bind_head.new.bindings.items true = rw c.if-not-branch.false at c.in_ok-bind_head.ensures.exact in
+    let binds : Binds (λ v. HeadIs v c.head.result.now a.tuple.now) NoVariable c.new-walk.result.bindings.items c.bind_head.new.bindings.items true =
+    rw c.if-not-branch.false at c.in_ok-bind_head.ensures.exact in
     record {
-      exact = ok_then c.has_ending.result (λ found. IsTrue found ↔ HasEnding a.facts.now a.image.now c.body-2.result.now c.bind_head.new.bindings.items c.new-walk.result.path.items) (λ found. IsTrue found ↔ HasImage a.facts.now a.query.now a.tuple.now a.image.now)
+      exact = ok_then c.has_ending.result (λ found. IsTrue found ↔ HasEnding a.facts.now a.image.now c.body-2.result.now c.bind_head.new.bindings.items
+          c.new-walk.result.path.items) (λ found. IsTrue found ↔ HasImage a.facts.now a.query.now a.tuple.now a.image.now)
           (λ found is. (
-            (λ h. ending_is_image a.facts.now a.query.now a.tuple.now a.image.now c.len-count.ensures.distinct c.head.result.now c.body-2.result.now c.new-walk.result.bindings.items c.bind_head.new.bindings.items c.new-walk.result.path.items c.head.ensures.lent c.body-2.ensures.lent c.new-walk.ensures.bindings c.new-walk.ensures.path binds (is.0 h)),
-            (λ h. is.1 (image_has_ending a.facts.now a.query.now a.tuple.now a.image.now c.len-count.ensures.distinct c.head.result.now c.body-2.result.now c.new-walk.result.bindings.items c.bind_head.new.bindings.items c.new-walk.result.path.items c.head.ensures.lent c.body-2.ensures.lent c.new-walk.ensures.bindings c.new-walk.ensures.path binds h)),
+            (λ h. ending_is_image a.facts.now a.query.now a.tuple.now a.image.now c.len-count.ensures.distinct c.head.result.now c.body-2.result.now
+                c.new-walk.result.bindings.items c.bind_head.new.bindings.items c.new-walk.result.path.items c.head.ensures.lent c.body-2.ensures.lent
+                c.new-walk.ensures.bindings c.new-walk.ensures.path binds (is.0 h)),
+            (λ h. is.1 (image_has_ending a.facts.now a.query.now a.tuple.now a.image.now c.len-count.ensures.distinct c.head.result.now c.body-2.result.now
+                c.new-walk.result.bindings.items c.bind_head.new.bindings.items c.new-walk.result.path.items c.head.ensures.lent c.body-2.ensures.lent
+                c.new-walk.ensures.bindings c.new-walk.ensures.path binds h)),
           ))
           c.has_ending.ensures.exact;
     }

@@ -9,13 +9,17 @@ use Rattle.plain_match.proofs.hits.images_plain.Goals as goal
 
 pub loop-query-preserved : goal.loop-query-preserved
 loop-query-preserved c =
-    rows_more c.args.facts.now c.args.members.now c.loop-query.query-index c.query-item.result c.loop-query.found.keys c.in_ok-found.found.keys c.loop-query-test.true c.query-item.is c.loop-query.invariant c.in_ok-found.ensures.only c.in_ok-found.ensures.all
+    rows_more c.args.facts.now c.args.members.now c.loop-query.query-index c.query-item.result c.loop-query.found.keys c.in_ok-found.found.keys
+    c.loop-query-test.true c.query-item.is c.loop-query.invariant c.in_ok-found.ensures.only c.in_ok-found.ensures.all
 
 pub returns : goal.returns
 returns c =
     let a = c.args in
     record {
-      exact = ok_with c.hits_of.result (λ hits. hits.items ≡ map hit_of c.loop-query.found.keys) (λ hits. AreHitsOfAll a.facts.now a.members.now hits.items) (IsStrictlySortedBy row_cmp c.loop-query.found.keys)
-          (λ hits is ordered. subst (λ (hs : List Hit). AreHitsOfAll a.facts.now a.members.now hs) (sym is) (rows_all a.facts.now a.members.now c.loop-query.query-index c.loop-query.found.keys c.loop-query-test.false c.loop-query.auto.query-index-end c.loop-query.invariant ordered))
+      exact = ok_with c.hits_of.result (λ hits. hits.items ≡ map hit_of c.loop-query.found.keys) (λ hits. AreHitsOfAll a.facts.now a.members.now hits.items)
+          (IsStrictlySortedBy row_cmp c.loop-query.found.keys)
+          (λ hits is ordered. subst (λ (hs : List Hit). AreHitsOfAll a.facts.now a.members.now hs) (sym is)
+          (rows_all a.facts.now a.members.now c.loop-query.query-index c.loop-query.found.keys c.loop-query-test.false c.loop-query.auto.query-index-end
+          c.loop-query.invariant ordered))
           c.hits_of.ensures.exact c.hits_of.ensures.ordered;
     }

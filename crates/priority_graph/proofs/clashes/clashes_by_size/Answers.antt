@@ -10,7 +10,8 @@ pub loop-clash-preserved : goal.loop-clash-preserved
 loop-clash-preserved c =
     let done : List Clash = take c.loop-clash.clash-index c.args.clashes.now in
     let next : take (c.loop-clash.clash-index + 1) c.args.clashes.now ≡ done ++ c.clash-item.result ∷ [] =
-    take_more c.args.clashes.now c.loop-clash.clash-index c.clash-item.result c.loop-clash-test.true ∙ ap (λ (d : Clash). done ++ d ∷ []) (sym c.clash-item.is) in
+    take_more c.args.clashes.now c.loop-clash.clash-index c.clash-item.result c.loop-clash-test.true
+    ∙ ap (λ (d : Clash). done ++ d ∷ []) (sym c.clash-item.is) in
     record {
       own = c.in_ok-take.ensures.own
           ∙ ap (λ (xs : List ℕ). xs ++ cons_option (single c.as_slice.result.now) []) c.loop-clash.invariant.own

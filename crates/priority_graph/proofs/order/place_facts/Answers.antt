@@ -13,21 +13,32 @@ loop-next-init c =
 pub release-requires-clause-some : goal.release-requires-clause-some
 release-requires-clause-some c =
     let within : c.loop-next.next < length c.loop-next.order.items = omega arith in
-    let is : c.index.result.now ≡ get_or c.loop-next.order.items c.loop-next.next 0 = get_or_read c.loop-next.order.items c.loop-next.next c.index.result.now within c.index.ensures 0 in
-    let list : c.list.result.now ≡ get_or c.args.lists.now (get_or c.loop-next.order.items c.loop-next.next 0) [] = c.list.ensures.lent ∙ ap (λ (n : ℕ). get_or c.args.lists.now n []) is in
+    let is : c.index.result.now ≡ get_or c.loop-next.order.items c.loop-next.next 0 =
+    get_or_read c.loop-next.order.items c.loop-next.next c.index.result.now within c.index.ensures 0 in
+    let list : c.list.result.now ≡ get_or c.args.lists.now (get_or c.loop-next.order.items c.loop-next.next 0) [] =
+    c.list.ensures.lent ∙ ap (λ (n : ℕ). get_or c.args.lists.now n []) is in
     rw list (some_left c.args.facts c.args.lists.now c.loop-next.order.items c.loop-next.counts c.loop-next.next c.requires.lists c.loop-next.invariant within)
 
 pub loop-next-smaller : goal.loop-next-smaller
 loop-next-smaller c =
     let within : c.loop-next.next < length c.loop-next.order.items = omega arith in
-    omega (arith, next_inside c.args.facts c.args.lists.now c.loop-next.order.items c.loop-next.counts c.loop-next.next c.requires.lists c.loop-next.invariant within)
+    omega (
+      arith,
+      next_inside c.args.facts c.args.lists.now c.loop-next.order.items c.loop-next.counts c.loop-next.next c.requires.lists c.loop-next.invariant
+          within,
+    )
 
 pub loop-next-preserved : goal.loop-next-preserved
 loop-next-preserved c =
     let within : c.loop-next.next < length c.loop-next.order.items = omega arith in
-    let is : c.index.result.now ≡ get_or c.loop-next.order.items c.loop-next.next 0 = get_or_read c.loop-next.order.items c.loop-next.next c.index.result.now within c.index.ensures 0 in
-    let list : c.list.result.now ≡ get_or c.args.lists.now (get_or c.loop-next.order.items c.loop-next.next 0) [] = c.list.ensures.lent ∙ ap (λ (n : ℕ). get_or c.args.lists.now n []) is in
-    let adds : AddsEach c.release.new.counts c.loop-next.counts (get_or c.args.lists.now (get_or c.loop-next.order.items c.loop-next.next 0) []) = subst (AddsEach c.release.new.counts c.loop-next.counts) list c.in_ok-release.ensures.counts in
-    let grown : c.release.new.order.items ≡ c.loop-next.order.items ++ filter (λ i. eqb (get_or c.loop-next.counts i 0) 1) (get_or c.args.lists.now (get_or c.loop-next.order.items c.loop-next.next 0) []) =
+    let is : c.index.result.now ≡ get_or c.loop-next.order.items c.loop-next.next 0 =
+    get_or_read c.loop-next.order.items c.loop-next.next c.index.result.now within c.index.ensures 0 in
+    let list : c.list.result.now ≡ get_or c.args.lists.now (get_or c.loop-next.order.items c.loop-next.next 0) [] =
+    c.list.ensures.lent ∙ ap (λ (n : ℕ). get_or c.args.lists.now n []) is in
+    let adds : AddsEach c.release.new.counts c.loop-next.counts (get_or c.args.lists.now (get_or c.loop-next.order.items c.loop-next.next 0) []) =
+    subst (AddsEach c.release.new.counts c.loop-next.counts) list c.in_ok-release.ensures.counts in
+    let grown : c.release.new.order.items ≡ c.loop-next.order.items
+    ++ filter (λ i. eqb (get_or c.loop-next.counts i 0) 1) (get_or c.args.lists.now (get_or c.loop-next.order.items c.loop-next.next 0) []) =
     c.in_ok-release.ensures.order ∙ ap (λ (xs : List ℕ). c.loop-next.order.items ++ filter (λ i. eqb (get_or c.loop-next.counts i 0) 1) xs) list in
-    rw grown (placing_more c.args.facts c.args.lists.now c.loop-next.order.items c.loop-next.counts c.loop-next.next c.requires.lists c.loop-next.invariant within c.release.new.counts adds)
+    rw grown (placing_more c.args.facts c.args.lists.now c.loop-next.order.items c.loop-next.counts c.loop-next.next c.requires.lists c.loop-next.invariant
+    within c.release.new.counts adds)

@@ -14,14 +14,23 @@ loop-fact-init c = record {
 
 pub loop-fact-preserved : goal.loop-fact-preserved
 loop-fact-preserved c =
-    let places : SetsEach c.loop-fact.marks c.set_each.new.numbers (get_or c.args.listed.now c.loop-fact.fact []) (c.loop-fact.fact + 1) = rw c.list.ensures.lent at c.set_each.ensures.exact in
+    let places : SetsEach c.loop-fact.marks c.set_each.new.numbers (get_or c.args.listed.now c.loop-fact.fact []) (c.loop-fact.fact + 1) =
+    rw c.list.ensures.lent at c.set_each.ensures.exact in
     record {
       split =
           rw (c.in_ok-take.ensures.worse, c.in_ok-take.ensures.blockers)
           (split_more c.args.conflicts.now c.args.listed.now c.loop-fact.fact c.loop-fact.entries.worse.items c.loop-fact.entries.blockers.items
           (λ (j : ℕ). eqb (get_or c.set_each.new.numbers j 0) (c.loop-fact.fact + 1)) c.of.result.now c.loop-fact.invariant.split
-          (record { are = c.of.ensures.lent; ascending = c.of.ensures.ascending; exact = c.of.ensures.exact; known = c.of.ensures.known; few = c.of.ensures.few })
-          (λ j l. mark_tells c.loop-fact.marks c.set_each.new.numbers _ c.loop-fact.fact places c.loop-fact.invariant.older j (omega (arith, c.loop-fact.invariant.all))));
+          (record {
+            are = c.of.ensures.lent;
+            ascending = c.of.ensures.ascending;
+            exact = c.of.ensures.exact;
+            known = c.of.ensures.known;
+            few =
+                c.of.ensures.few;
+          })
+          (λ j l. mark_tells c.loop-fact.marks c.set_each.new.numbers _ c.loop-fact.fact places c.loop-fact.invariant.older j
+          (omega (arith, c.loop-fact.invariant.all))));
       all = places.all ∙ c.loop-fact.invariant.all;
       older = marks_older c.loop-fact.marks c.set_each.new.numbers _ c.loop-fact.fact places c.loop-fact.invariant.older;
     }
@@ -29,4 +38,7 @@ loop-fact-preserved c =
 pub returns : goal.returns
 returns c =
     let done : c.loop-fact.fact ≡ c.args.conflicts.now.facts = omega arith in
-    record { exact = subst (λ (n : ℕ). AreSplitEntries c.args.conflicts.now c.args.listed.now n c.loop-fact.entries.worse.items c.loop-fact.entries.blockers.items) done c.loop-fact.invariant.split }
+    record {
+      exact = subst (λ (n : ℕ). AreSplitEntries c.args.conflicts.now c.args.listed.now n c.loop-fact.entries.worse.items
+          c.loop-fact.entries.blockers.items) done c.loop-fact.invariant.split;
+    }

@@ -4,7 +4,8 @@ use Rattle.refutation_confirmer.proofs.ClosureLemmas.{ClosesSo-more, IsClosure-a
 use Rattle.refutation_confirmer.proofs.closure.close.Goals as goal
 
 pub loop-direction-preserved : goal.loop-direction-preserved
-loop-direction-preserved c = ClosesSo-more c.args.direction c.args.axioms.now c.args.marks.now c.loop-direction.marks c.pass.new.marks c.pass.result c.loop-direction.invariant c.pass.ensures.exact
+loop-direction-preserved c = ClosesSo-more c.args.direction c.args.axioms.now c.args.marks.now c.loop-direction.marks c.pass.new.marks c.pass.result
+    c.loop-direction.invariant c.pass.ensures.exact
 
 pub returns : goal.returns
 returns c = record {

@@ -15,7 +15,9 @@ returns-in_default-clause-yes c =
     let t = c.in_ok-tables in
     let s = c.loop-rest in
     let none = rw c.in_default.is at c.in_ok-line.ensures.exact in
-    no_yes a.kb.now a.vocab.now.inds a.query.now a.report.now s.number rule.Text (stops_at_text a.kb.now a.vocab.now.inds a.query.now a.report.now c.requires.axioms c.requires.facts c.asked_concept.result c.asked_concept.ensures.exact t.tables t.ensures.exact s.rest.now s.number s.progress s.invariant some none)
+    no_yes a.kb.now a.vocab.now.inds a.query.now a.report.now s.number rule.Text
+    (stops_at_text a.kb.now a.vocab.now.inds a.query.now a.report.now c.requires.axioms c.requires.facts c.asked_concept.result
+    c.asked_concept.ensures.exact t.tables t.ensures.exact s.rest.now s.number s.progress s.invariant some none)
 
 pub returns-in_default-clause-no : goal.returns-in_default-clause-no
 returns-in_default-clause-no c =
@@ -24,7 +26,9 @@ returns-in_default-clause-no c =
     let t = c.in_ok-tables in
     let s = c.loop-rest in
     let none = rw c.in_default.is at c.in_ok-line.ensures.exact in
-    no_no a.kb.now a.vocab.now.inds a.query.now a.report.now s.number rule.Text (stops_at_text a.kb.now a.vocab.now.inds a.query.now a.report.now c.requires.axioms c.requires.facts c.asked_concept.result c.asked_concept.ensures.exact t.tables t.ensures.exact s.rest.now s.number s.progress s.invariant some none)
+    no_no a.kb.now a.vocab.now.inds a.query.now a.report.now s.number rule.Text
+    (stops_at_text a.kb.now a.vocab.now.inds a.query.now a.report.now c.requires.axioms c.requires.facts c.asked_concept.result
+    c.asked_concept.ensures.exact t.tables t.ensures.exact s.rest.now s.number s.progress s.invariant some none)
 
 pub returns-in-Some-2-clause-yes : goal.returns-in-Some-2-clause-yes
 returns-in-Some-2-clause-yes c =
@@ -33,7 +37,10 @@ returns-in-Some-2-clause-yes c =
     let a = c.args in
     let t = c.in_ok-tables in
     let s = c.loop-rest in
-    no_yes a.kb.now a.vocab.now.inds a.query.now a.report.now s.number c.in-Some-2.rule (stops_at_line a.kb.now a.vocab.now.inds a.query.now a.report.now c.requires.axioms c.requires.facts c.asked_concept.result c.asked_concept.ensures.exact t.tables t.ensures.exact s.rest.now s.number s.progress s.invariant c.in-Some.more.now c.in-Some.line c.in-Some-2.rule found.0 found.1 breaks)
+    no_yes a.kb.now a.vocab.now.inds a.query.now a.report.now s.number c.in-Some-2.rule
+    (stops_at_line a.kb.now a.vocab.now.inds a.query.now a.report.now c.requires.axioms c.requires.facts c.asked_concept.result
+    c.asked_concept.ensures.exact t.tables t.ensures.exact s.rest.now s.number s.progress s.invariant c.in-Some.more.now c.in-Some.line c.in-Some-2.rule
+    found.0 found.1 breaks)
 
 pub returns-in-Some-2-clause-no : goal.returns-in-Some-2-clause-no
 returns-in-Some-2-clause-no c =
@@ -42,14 +49,18 @@ returns-in-Some-2-clause-no c =
     let a = c.args in
     let t = c.in_ok-tables in
     let s = c.loop-rest in
-    no_no a.kb.now a.vocab.now.inds a.query.now a.report.now s.number c.in-Some-2.rule (stops_at_line a.kb.now a.vocab.now.inds a.query.now a.report.now c.requires.axioms c.requires.facts c.asked_concept.result c.asked_concept.ensures.exact t.tables t.ensures.exact s.rest.now s.number s.progress s.invariant c.in-Some.more.now c.in-Some.line c.in-Some-2.rule found.0 found.1 breaks)
+    no_no a.kb.now a.vocab.now.inds a.query.now a.report.now s.number c.in-Some-2.rule
+    (stops_at_line a.kb.now a.vocab.now.inds a.query.now a.report.now c.requires.axioms c.requires.facts c.asked_concept.result
+    c.asked_concept.ensures.exact t.tables t.ensures.exact s.rest.now s.number s.progress s.invariant c.in-Some.more.now c.in-Some.line c.in-Some-2.rule
+    found.0 found.1 breaks)
 
 pub after-progress-requires-clause-cores : goal.after-progress-requires-clause-cores
 after-progress-requires-clause-cores c =
     let a = c.args in
     let t = c.in_ok-tables in
     let s = c.loop-rest in
-    let few = ConfirmsSo-few a.kb.now (concept_query t.tables.concept) a.vocab.now.inds (tuples_of t.tables.candidates.items) a.report.now s.rest.now s.number s.progress s.invariant in
+    let few = ConfirmsSo-few a.kb.now (concept_query t.tables.concept) a.vocab.now.inds (tuples_of t.tables.candidates.items) a.report.now s.rest.now s.number
+    s.progress s.invariant in
     let some : 0 < length c.loop-rest.rest.now = grind (arith, nat_tests) in
     let bounded = c.type_inv.report in
     omega (arith, few.0, few.1, few.2, few.3)
@@ -59,7 +70,8 @@ after-progress-requires-clause-answers c =
     let a = c.args in
     let t = c.in_ok-tables in
     let s = c.loop-rest in
-    let few = ConfirmsSo-few a.kb.now (concept_query t.tables.concept) a.vocab.now.inds (tuples_of t.tables.candidates.items) a.report.now s.rest.now s.number s.progress s.invariant in
+    let few = ConfirmsSo-few a.kb.now (concept_query t.tables.concept) a.vocab.now.inds (tuples_of t.tables.candidates.items) a.report.now s.rest.now s.number
+    s.progress s.invariant in
     let some : 0 < length c.loop-rest.rest.now = grind (arith, nat_tests) in
     let bounded = c.type_inv.report in
     omega (arith, few.0, few.1, few.2, few.3)
@@ -69,7 +81,8 @@ after-progress-requires-clause-brave c =
     let a = c.args in
     let t = c.in_ok-tables in
     let s = c.loop-rest in
-    let few = ConfirmsSo-few a.kb.now (concept_query t.tables.concept) a.vocab.now.inds (tuples_of t.tables.candidates.items) a.report.now s.rest.now s.number s.progress s.invariant in
+    let few = ConfirmsSo-few a.kb.now (concept_query t.tables.concept) a.vocab.now.inds (tuples_of t.tables.candidates.items) a.report.now s.rest.now s.number
+    s.progress s.invariant in
     let some : 0 < length c.loop-rest.rest.now = grind (arith, nat_tests) in
     let bounded = c.type_inv.report in
     omega (arith, few.0, few.1, few.2, few.3)
@@ -79,7 +92,8 @@ overflow_add-number c =
     let a = c.args in
     let t = c.in_ok-tables in
     let s = c.loop-rest in
-    let few = ConfirmsSo-few a.kb.now (concept_query t.tables.concept) a.vocab.now.inds (tuples_of t.tables.candidates.items) a.report.now s.rest.now s.number s.progress s.invariant in
+    let few = ConfirmsSo-few a.kb.now (concept_query t.tables.concept) a.vocab.now.inds (tuples_of t.tables.candidates.items) a.report.now s.rest.now s.number
+    s.progress s.invariant in
     let some : 0 < length c.loop-rest.rest.now = grind (arith, nat_tests) in
     let bounded = c.type_inv.report in
     omega (arith, few.0)
@@ -91,7 +105,8 @@ loop-rest-preserved-in_default-2 c =
     let s = c.loop-rest in
     let found = rw c.in-Some.is at c.in_ok-line.ensures.exact in
     let right = rw c.in_default-2.is at c.in_ok-rule.ensures.exact in
-    rw c.after-progress.ensures.exact (ConfirmsSo-more a.kb.now (concept_query t.tables.concept) a.vocab.now.inds (tuples_of t.tables.candidates.items) a.report.now s.rest.now c.in-Some.more.now s.number s.progress c.in-Some.line s.invariant found.0 found.1 right)
+    rw c.after-progress.ensures.exact (ConfirmsSo-more a.kb.now (concept_query t.tables.concept) a.vocab.now.inds (tuples_of t.tables.candidates.items)
+    a.report.now s.rest.now c.in-Some.more.now s.number s.progress c.in-Some.line s.invariant found.0 found.1 right)
 
 pub loop-rest-preserved-in_default-2-2 : goal.loop-rest-preserved-in_default-2-2
 loop-rest-preserved-in_default-2-2 c =
@@ -100,7 +115,8 @@ loop-rest-preserved-in_default-2-2 c =
     let s = c.loop-rest in
     let found = rw c.in-Some.is at c.in_ok-line.ensures.exact in
     let right = rw c.in_default-2.is at c.in_ok-rule.ensures.exact in
-    rw c.after-progress.ensures.exact (ConfirmsSo-more a.kb.now (concept_query t.tables.concept) a.vocab.now.inds (tuples_of t.tables.candidates.items) a.report.now s.rest.now c.in-Some.more.now s.number s.progress c.in-Some.line s.invariant found.0 found.1 right)
+    rw c.after-progress.ensures.exact (ConfirmsSo-more a.kb.now (concept_query t.tables.concept) a.vocab.now.inds (tuples_of t.tables.candidates.items)
+    a.report.now s.rest.now c.in-Some.more.now s.number s.progress c.in-Some.line s.invariant found.0 found.1 right)
 
 pub loop-rest-preserved-in_default-2-6 : goal.loop-rest-preserved-in_default-2-6
 loop-rest-preserved-in_default-2-6 c =
@@ -109,7 +125,8 @@ loop-rest-preserved-in_default-2-6 c =
     let s = c.loop-rest in
     let found = rw c.in-Some.is at c.in_ok-line.ensures.exact in
     let right = rw c.in_default-2.is at c.in_ok-rule.ensures.exact in
-    rw c.after-progress.ensures.exact (ConfirmsSo-more a.kb.now (concept_query t.tables.concept) a.vocab.now.inds (tuples_of t.tables.candidates.items) a.report.now s.rest.now c.in-Some.more.now s.number s.progress c.in-Some.line s.invariant found.0 found.1 right)
+    rw c.after-progress.ensures.exact (ConfirmsSo-more a.kb.now (concept_query t.tables.concept) a.vocab.now.inds (tuples_of t.tables.candidates.items)
+    a.report.now s.rest.now c.in-Some.more.now s.number s.progress c.in-Some.line s.invariant found.0 found.1 right)
 
 pub loop-rest-preserved-in_default-2-8 : goal.loop-rest-preserved-in_default-2-8
 loop-rest-preserved-in_default-2-8 c =
@@ -118,7 +135,8 @@ loop-rest-preserved-in_default-2-8 c =
     let s = c.loop-rest in
     let found = rw c.in-Some.is at c.in_ok-line.ensures.exact in
     let right = rw c.in_default-2.is at c.in_ok-rule.ensures.exact in
-    rw c.after-progress.ensures.exact (ConfirmsSo-more a.kb.now (concept_query t.tables.concept) a.vocab.now.inds (tuples_of t.tables.candidates.items) a.report.now s.rest.now c.in-Some.more.now s.number s.progress c.in-Some.line s.invariant found.0 found.1 right)
+    rw c.after-progress.ensures.exact (ConfirmsSo-more a.kb.now (concept_query t.tables.concept) a.vocab.now.inds (tuples_of t.tables.candidates.items)
+    a.report.now s.rest.now c.in-Some.more.now s.number s.progress c.in-Some.line s.invariant found.0 found.1 right)
 
 pub loop-rest-preserved : goal.loop-rest-preserved
 loop-rest-preserved c =
@@ -127,7 +145,8 @@ loop-rest-preserved c =
     let s = c.loop-rest in
     let found = rw c.in-Some.is at c.in_ok-line.ensures.exact in
     let right = rw c.in_default-2.is at c.in_ok-rule.ensures.exact in
-    rw c.after-progress.ensures.exact (ConfirmsSo-more a.kb.now (concept_query t.tables.concept) a.vocab.now.inds (tuples_of t.tables.candidates.items) a.report.now s.rest.now c.in-Some.more.now s.number s.progress c.in-Some.line s.invariant found.0 found.1 right)
+    rw c.after-progress.ensures.exact (ConfirmsSo-more a.kb.now (concept_query t.tables.concept) a.vocab.now.inds (tuples_of t.tables.candidates.items)
+    a.report.now s.rest.now c.in-Some.more.now s.number s.progress c.in-Some.line s.invariant found.0 found.1 right)
 
 pub returns-then-eq-clause-yes : goal.returns-then-eq-clause-yes
 returns-then-eq-clause-yes c =
@@ -136,7 +155,9 @@ returns-then-eq-clause-yes c =
     let a = c.args in
     let t = c.in_ok-tables in
     let s = c.loop-rest in
-    yes_yes a.kb.now a.vocab.now.inds a.query.now a.report.now s.progress.answers (ends a.kb.now a.vocab.now.inds a.query.now a.report.now c.requires.axioms c.requires.facts c.asked_concept.result c.asked_concept.ensures.exact t.tables t.ensures.exact s.rest.now s.number s.progress s.invariant none last)
+    yes_yes a.kb.now a.vocab.now.inds a.query.now a.report.now s.progress.answers
+    (ends a.kb.now a.vocab.now.inds a.query.now a.report.now c.requires.axioms c.requires.facts c.asked_concept.result c.asked_concept.ensures.exact
+    t.tables t.ensures.exact s.rest.now s.number s.progress s.invariant none last)
 
 pub returns-then-eq-clause-no : goal.returns-then-eq-clause-no
 returns-then-eq-clause-no c =
@@ -145,7 +166,9 @@ returns-then-eq-clause-no c =
     let a = c.args in
     let t = c.in_ok-tables in
     let s = c.loop-rest in
-    yes_no a.kb.now a.vocab.now.inds a.query.now a.report.now s.progress.answers (ends a.kb.now a.vocab.now.inds a.query.now a.report.now c.requires.axioms c.requires.facts c.asked_concept.result c.asked_concept.ensures.exact t.tables t.ensures.exact s.rest.now s.number s.progress s.invariant none last)
+    yes_no a.kb.now a.vocab.now.inds a.query.now a.report.now s.progress.answers
+    (ends a.kb.now a.vocab.now.inds a.query.now a.report.now c.requires.axioms c.requires.facts c.asked_concept.result c.asked_concept.ensures.exact
+    t.tables t.ensures.exact s.rest.now s.number s.progress s.invariant none last)
 
 pub returns-then-eq-clause-true_verdicts : goal.returns-then-eq-clause-true_verdicts
 returns-then-eq-clause-true_verdicts c =
@@ -154,7 +177,9 @@ returns-then-eq-clause-true_verdicts c =
     let a = c.args in
     let t = c.in_ok-tables in
     let s = c.loop-rest in
-    yes_true a.kb.now a.vocab.now.inds a.query.now a.report.now c.requires.axioms c.requires.facts c.asked_concept.result c.asked_concept.ensures.exact s.progress.answers (ends a.kb.now a.vocab.now.inds a.query.now a.report.now c.requires.axioms c.requires.facts c.asked_concept.result c.asked_concept.ensures.exact t.tables t.ensures.exact s.rest.now s.number s.progress s.invariant none last)
+    yes_true a.kb.now a.vocab.now.inds a.query.now a.report.now c.requires.axioms c.requires.facts c.asked_concept.result c.asked_concept.ensures.exact
+    s.progress.answers (ends a.kb.now a.vocab.now.inds a.query.now a.report.now c.requires.axioms c.requires.facts c.asked_concept.result
+    c.asked_concept.ensures.exact t.tables t.ensures.exact s.rest.now s.number s.progress s.invariant none last)
 
 pub returns-clause-yes : goal.returns-clause-yes
 returns-clause-yes c =
@@ -163,7 +188,9 @@ returns-clause-yes c =
     let a = c.args in
     let t = c.in_ok-tables in
     let s = c.loop-rest in
-    no_yes a.kb.now a.vocab.now.inds a.query.now a.report.now s.number rule.Missing (stops_at_end a.kb.now a.vocab.now.inds a.query.now a.report.now c.requires.axioms c.requires.facts c.asked_concept.result c.asked_concept.ensures.exact t.tables t.ensures.exact s.rest.now s.number s.progress s.invariant none other)
+    no_yes a.kb.now a.vocab.now.inds a.query.now a.report.now s.number rule.Missing
+    (stops_at_end a.kb.now a.vocab.now.inds a.query.now a.report.now c.requires.axioms c.requires.facts c.asked_concept.result
+    c.asked_concept.ensures.exact t.tables t.ensures.exact s.rest.now s.number s.progress s.invariant none other)
 
 pub returns-clause-no : goal.returns-clause-no
 returns-clause-no c =
@@ -172,4 +199,6 @@ returns-clause-no c =
     let a = c.args in
     let t = c.in_ok-tables in
     let s = c.loop-rest in
-    no_no a.kb.now a.vocab.now.inds a.query.now a.report.now s.number rule.Missing (stops_at_end a.kb.now a.vocab.now.inds a.query.now a.report.now c.requires.axioms c.requires.facts c.asked_concept.result c.asked_concept.ensures.exact t.tables t.ensures.exact s.rest.now s.number s.progress s.invariant none other)
+    no_no a.kb.now a.vocab.now.inds a.query.now a.report.now s.number rule.Missing
+    (stops_at_end a.kb.now a.vocab.now.inds a.query.now a.report.now c.requires.axioms c.requires.facts c.asked_concept.result
+    c.asked_concept.ensures.exact t.tables t.ensures.exact s.rest.now s.number s.progress s.invariant none other)

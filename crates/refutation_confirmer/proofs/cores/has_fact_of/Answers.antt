@@ -13,6 +13,7 @@ returns c = record {
   exact = (
     (λ t. absurd (true≢false (sym t))),
     λ (i, (k, l, e), h).
-        absurd (c.loop-i.invariant k (omega arith) (subst (IsOfMarkedAt c.args.facts.now c.args.individual c.args.marks.now) (sym (get_or_default c.args.numbers.now k 0 i l ∙ e)) h)),
+        absurd (c.loop-i.invariant k (omega arith) (subst (IsOfMarkedAt c.args.facts.now c.args.individual c.args.marks.now)
+        (sym (get_or_default c.args.numbers.now k 0 i l ∙ e)) h)),
   );
 }

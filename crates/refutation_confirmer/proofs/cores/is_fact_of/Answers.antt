@@ -8,5 +8,6 @@ use Rattle.refutation_confirmer.proofs.cores.is_fact_of.Goals as goal
 pub returns : goal.returns
 returns c = record {
   exact = subst (λ b. IsTrue b ↔ IsOfMarkedAt c.args.facts.now c.args.individual c.args.marks.now c.args.number) (sym c.is_of_marked_at.ensures.exact)
-      (marked_at c.args.facts.now c.args.individual c.args.marks.now c.args.number _ (slice_get-get_or c.args.facts.now c.args.number (fact.Concept 0 0) c.requires.number));
+      (marked_at c.args.facts.now c.args.individual c.args.marks.now c.args.number _
+      (slice_get-get_or c.args.facts.now c.args.number (fact.Concept 0 0) c.requires.number));
 }

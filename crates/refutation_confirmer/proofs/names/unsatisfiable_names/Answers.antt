@@ -23,10 +23,12 @@ loop-name-preserved c =
     let names = c.loop-name.names.items in
     let b = c.index.result.now in
     let e : c.push.new.self.items ≡ names ++ b ∷ [] = c.in_ok-push.ensures.items in
-    let read : b ≡ get_or c.in_ok-meeting.meeting.items c.loop-name.name false = get_or_read c.in_ok-meeting.meeting.items c.loop-name.name b (omega (arith, c.in_ok-meeting.ensures.size)) c.index.ensures false in
+    let read : b ≡ get_or c.in_ok-meeting.meeting.items c.loop-name.name false =
+    get_or_read c.in_ok-meeting.meeting.items c.loop-name.name b (omega (arith, c.in_ok-meeting.ensures.size)) c.index.ensures false in
     let met = c.in_ok-meeting.ensures.exact c.loop-name.name in
     record {
       size = ap length e ∙ length_push names b ∙ ap (λ z. z + 1) c.loop-name.invariant.size;
       each = λ a l. subst (λ xs. IsMarked xs a ↔ Meets c.args.axioms.now a a) (sym e)
-          (more (λ a. Meets c.args.axioms.now a a) names c.loop-name.name b c.loop-name.invariant.size c.loop-name.invariant.each ((λ t. met.0 (sym read ∙ t)), (λ m. read ∙ met.1 m)) a l);
+          (more (λ a. Meets c.args.axioms.now a a) names c.loop-name.name b c.loop-name.invariant.size c.loop-name.invariant.each
+          ((λ t. met.0 (sym read ∙ t)), (λ m. read ∙ met.1 m)) a l);
     }

@@ -13,7 +13,8 @@ pub returns-then-not-keeps_reason : goal.returns-then-not-keeps_reason
 returns-then-not-keeps_reason c =
     let off : c.keeps_reason.result ≡ false = cc in
     record {
-      exact = no_right_core c.args.kb.now c.requires.axioms c.requires.facts c.args.tables.now.concept c.args.tables.now.candidates.items c.args.progress.now c.args.number c.args.kept.now c.args.dropped.now
+      exact = no_right_core c.args.kb.now c.requires.axioms c.requires.facts c.args.tables.now.concept c.args.tables.now.candidates.items c.args.progress.now
+          c.args.number c.args.kept.now c.args.dropped.now
           (λ w. true≢false (sym (c.keeps_reason.ensures.exact.1 w) ∙ off));
     }
 
@@ -28,7 +29,9 @@ returns c =
     let dropped = rw c.facts-facts.ensures.lent at (c.are_fact_numbers-else-not-are_fact_numbers.ensures.exact.0 second) in
     record {
       exact = IfOk-weaker c.is_core.result (λ right. IsTrue right ↔ IsCore kb repairs.All (is_in c.args.kept.now) (is_in c.args.dropped.now))
-          (λ right. IsTrue right ↔ IsRightCore kb (concept_query c.args.tables.now.concept) (tuples_of c.args.tables.now.candidates.items) c.args.progress.now c.args.number c.args.kept.now c.args.dropped.now)
-          (λ right h. right_core kb c.requires.axioms c.requires.facts c.args.tables.now.concept c.args.tables.now.candidates.items c.args.progress.now c.args.number c.args.kept.now c.args.dropped.now right number kept dropped (c.keeps_reason.ensures.exact.0 on) h)
+          (λ right. IsTrue right ↔ IsRightCore kb (concept_query c.args.tables.now.concept) (tuples_of c.args.tables.now.candidates.items) c.args.progress.now
+          c.args.number c.args.kept.now c.args.dropped.now)
+          (λ right h. right_core kb c.requires.axioms c.requires.facts c.args.tables.now.concept c.args.tables.now.candidates.items c.args.progress.now
+          c.args.number c.args.kept.now c.args.dropped.now right number kept dropped (c.keeps_reason.ensures.exact.0 on) h)
           c.is_core.ensures.exact;
     }

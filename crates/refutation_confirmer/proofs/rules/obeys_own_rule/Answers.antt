@@ -13,8 +13,10 @@ returns-in-Core c =
 pub returns-in-Answer : goal.returns-in-Answer
 returns-in-Answer c =
     let arm = c.in-Answer in
-    let told = rw (c.as_slice-in-Answer.ensures.lent, c.as_slice-in-Answer-2.ensures.lent, c.as_slice-in-Answer-3.ensures.lent) at c.is_right_answer.ensures.exact in
+    let told = rw (c.as_slice-in-Answer.ensures.lent, c.as_slice-in-Answer-2.ensures.lent, c.as_slice-in-Answer-3.ensures.lent) at
+    c.is_right_answer.ensures.exact in
     record {
-      exact = rw arm.is (answer_right c.args.kb.now c.requires.axioms c.requires.facts c.args.individuals.now c.args.tables.now c.args.progress.now arm.brave arm.ar arm.iar arm.cores arm.names arm.tuple
+      exact = rw arm.is (answer_right c.args.kb.now c.requires.axioms c.requires.facts c.args.individuals.now c.args.tables.now c.args.progress.now arm.brave
+          arm.ar arm.iar arm.cores arm.names arm.tuple
           c.are_open.result c.is_right_answer.result c.requires.tables c.are_open.ensures.exact told);
     }

@@ -7,7 +7,8 @@ returns-in_default c = record { exact = starts_none c.args.rest.now c.in_default
 
 pub returns-in-Err-BadLine : goal.returns-in-Err-BadLine
 returns-in-Err-BadLine c = record {
-  exact = starts_no_line c.args.rest.now c.in-Some.text.now c.in-Some.more.now c.in-Some.ensures.exact (c.in-Err-BadLine.ensures.bad_line (ap Err c.in-Err-BadLine.field-0-is));
+  exact = starts_no_line c.args.rest.now c.in-Some.text.now c.in-Some.more.now c.in-Some.ensures.exact
+      (c.in-Err-BadLine.ensures.bad_line (ap Err c.in-Err-BadLine.field-0-is));
 }
 
 pub returns-in-Ok : goal.returns-in-Ok

@@ -15,4 +15,5 @@ loop-rule-preserved c = record {
 }
 
 pub returns-clause-axioms : goal.returns-clause-axioms
-returns-clause-axioms c = subst (All (IsWithin c.loop-rule.bound)) (take_all c.loop-rule.rule-index c.args.axioms.now (omega arith)) c.loop-rule.invariant.within
+returns-clause-axioms c = subst (All (IsWithin c.loop-rule.bound)) (take_all c.loop-rule.rule-index c.args.axioms.now (omega arith))
+    c.loop-rule.invariant.within

@@ -15,4 +15,5 @@ loop-fact-preserved c = record {
 }
 
 pub returns-clause-facts : goal.returns-clause-facts
-returns-clause-facts c = subst (All (IsFactWithin c.loop-fact.bound)) (take_all c.loop-fact.fact-index c.args.facts.now (omega arith)) c.loop-fact.invariant.within
+returns-clause-facts c = subst (All (IsFactWithin c.loop-fact.bound)) (take_all c.loop-fact.fact-index c.args.facts.now (omega arith))
+    c.loop-fact.invariant.within

@@ -12,5 +12,6 @@ returns-clause-exact c =
     let size : length new ≡ c.in_ok-having.having.len = search rules in
     let back : take c.in_ok-having.having.len (new ++ drop (length new) old) ≡ new = take_at new (drop (length new) old) c.in_ok-having.having.len size in
     let from : c.as_mut_slice.result.now ≡ replicate c.args.individuals false = c.as_mut_slice.ensures.value ∙ c.in_ok-having.ensures.exact in
-    let h = subst (λ (xs : List Bool). (t : ℕ) → IsMarked new t ↔ (IsMarked xs t ⊎ HasFact c.args.facts.now c.args.marks.now t)) from c.mark_individuals.ensures.exact in
+    let h = subst (λ (xs : List Bool). (t : ℕ) → IsMarked new t ↔ (IsMarked xs t ⊎ HasFact c.args.facts.now c.args.marks.now t)) from
+    c.mark_individuals.ensures.exact in
     rw back (individuals_alone c.args.facts.now c.args.marks.now new c.args.individuals h)

@@ -6,8 +6,10 @@ use Rattle.repair_encoder.proofs.reached.component.Goals as goal
 
 pub loop-next-init : goal.loop-next-init
 loop-next-init c =
-    let blank : length c.in_ok-unmarked.field-0.items ≡ c.args.conflicts.now.facts = ap (λ (xs : List Bool). length xs) c.in_ok-unmarked.ensures.exact ∙ length-replicate _ _ ∙ c.facts.ensures.exact in
-    walked_begun c.args.conflicts.now c.args.fact _ _ c.in_ok-see.ensures.kept (c.in_ok-see.ensures.marks ∙ blank) (rw c.new.ensures.items at c.in_ok-see.ensures.exact)
+    let blank : length c.in_ok-unmarked.field-0.items ≡ c.args.conflicts.now.facts =
+    ap (λ (xs : List Bool). length xs) c.in_ok-unmarked.ensures.exact ∙ length-replicate _ _ ∙ c.facts.ensures.exact in
+    walked_begun c.args.conflicts.now c.args.fact _ _ c.in_ok-see.ensures.kept (c.in_ok-see.ensures.marks ∙ blank)
+    (rw c.new.ensures.items at c.in_ok-see.ensures.exact)
 
 pub loop-next-smaller : goal.loop-next-smaller
 loop-next-smaller c =
@@ -24,7 +26,10 @@ pub returns : goal.returns
 returns c =
     let ended : length c.loop-next.walk.reached.items ≤ c.loop-next.next = omega (arith, c.loop-next-test.false, c.len.ensures) in
     record {
-      exact = IfOk-weaker _ _ _ (λ facts h. walked_component _ _ _ _ _ c.loop-next.invariant ended facts (rw c.as_slice.ensures.value at h)) c.sorted.ensures.exact;
-      closed = IfOk-weaker _ _ _ (λ facts h. component_closed _ _ _ _ _ c.loop-next.invariant ended facts (rw c.as_slice.ensures.value at h)) c.sorted.ensures.exact;
-      known = IfOk-weaker _ _ _ (λ facts h. component_known _ _ _ _ _ c.loop-next.invariant ended facts (rw c.as_slice.ensures.value at h)) c.sorted.ensures.exact;
+      exact = IfOk-weaker _ _ _ (λ facts h. walked_component _ _ _ _ _ c.loop-next.invariant ended facts (rw c.as_slice.ensures.value at h))
+          c.sorted.ensures.exact;
+      closed = IfOk-weaker _ _ _ (λ facts h. component_closed _ _ _ _ _ c.loop-next.invariant ended facts (rw c.as_slice.ensures.value at h))
+          c.sorted.ensures.exact;
+      known = IfOk-weaker _ _ _ (λ facts h. component_known _ _ _ _ _ c.loop-next.invariant ended facts (rw c.as_slice.ensures.value at h))
+          c.sorted.ensures.exact;
     }

@@ -6,7 +6,10 @@ use Rattle.repair_encoder.proofs.twins.has_lesser_twin.Goals.{else-other-fact-vi
 
 pub returns-then-are_twins : goal.returns-then-are_twins
 returns-then-are_twins c = record {
-  exact = ((λ _. (get_or c.blockers-other-items.result.now c.loop-other.other-index 0, c.if-other-fact.true, c.if-are_twins.ensures.exact.0 refl)), (λ _. refl));
+  exact = (
+    (λ _. (get_or c.blockers-other-items.result.now c.loop-other.other-index 0, c.if-other-fact.true, c.if-are_twins.ensures.exact.0 refl)),
+    (λ _. refl),
+  );
 }
 
 pub loop-other-preserved : goal.loop-other-preserved
@@ -21,7 +24,8 @@ pub returns : goal.returns
 returns c = record {
   exact = (
     (λ e. absurd (false≢true e)),
-    (λ twin. absurd (no_lesser_twin c.args.better.now c.args.fact c.loop-other.other-index c.blockers-other-items.result.now c.blockers-other-items.ensures.exact c.loop-other-test.false
+    (λ twin. absurd (no_lesser_twin c.args.better.now c.args.fact c.loop-other.other-index c.blockers-other-items.result.now
+        c.blockers-other-items.ensures.exact c.loop-other-test.false
         c.loop-other.invariant twin)),
   );
 }

@@ -8,6 +8,7 @@ use Rattle.report_laws.proofs.laws.tries_are_easy.Goals as goal
 
 pub returns : goal.returns
 returns c kb = (
-  (λ a lists assume (cause, m, e). subst (IsEasy kb mode.All question.Brave) (sym e) (brave_easy kb cause (λ i k. All-contains (λ i. i < length kb.facts) cause i (lists cause m).0 k) (lists cause m).1)),
+  (λ a lists assume (cause, m, e). subst (IsEasy kb mode.All question.Brave) (sym e)
+      (brave_easy kb cause (λ i k. All-contains (λ i. i < length kb.facts) cause i (lists cause m).0 k) (lists cause m).1)),
   (λ i (j, w). iar_easy kb i j w),
 )

@@ -9,8 +9,11 @@ pub returns-then-not-contains : goal.returns-then-not-contains
 returns-then-not-contains c =
     let small = c.args.small.now in
     let i = c.loop-literal.literal-index in
-    let tells = contains_tells c.args.large.now (get_or small i 0) c.contains.result c.contains.ensures.cases in
-    (λ e. absurd (false≢true e), λ w. absurd (both_ways c.contains.result c.if-not-contains.true (tells.1 (w (get_or small i 0) (Contains-get_or small i 0 c.loop-literal-test.true)))))
+    let tells = contains_tells c.args.large.now (get_or small i 0) c.contains.result c.contains.ensures.cases in (
+      λ e. absurd (false≢true e),
+      λ w. absurd (both_ways c.contains.result c.if-not-contains.true
+          (tells.1 (w (get_or small i 0) (Contains-get_or small i 0 c.loop-literal-test.true)))),
+    )
 
 pub loop-literal-preserved : goal.loop-literal-preserved
 loop-literal-preserved c l m =

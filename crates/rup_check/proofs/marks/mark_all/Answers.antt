@@ -24,7 +24,8 @@ returns-then-has-clause-opposites c =
     let x = get_or c.args.literals.now i 0 in (
       x,
       Contains-get_or c.args.literals.now i 0 c.loop-literal-test.true,
-      Contains-take c.args.literals.now i _ ((c.loop-literal.invariant.marked _).0 (subst (IsMarked c.loop-literal.marks.literals) c.opposite.ensures (c.has.ensures.0 c.if-has.true))),
+      Contains-take c.args.literals.now i _ ((c.loop-literal.invariant.marked _).0
+          (subst (IsMarked c.loop-literal.marks.literals) c.opposite.ensures (c.has.ensures.0 c.if-has.true))),
     )
 
 pub loop-literal-preserved : goal.loop-literal-preserved

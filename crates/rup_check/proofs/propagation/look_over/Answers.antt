@@ -43,7 +43,8 @@ loop-number-preserved c =
       | in_default w ↦ record {
         same_variables = ap (λ (m : Marked). m.variables) w.marks-is ∙ c.loop-number.invariant.same_variables;
         holds = subst (λ (ms : List ℕ). LooksHold slots numbers old ms (i + 1)) (sym (ap (λ (m : Marked). m.literals) w.marks-is))
-            (LooksHold-none slots numbers old marked i c.loop-number-test.true holds (λ d at. IsAt-none slots (get_or numbers i 0) d w.in_default.ensures.exact at));
+            (LooksHold-none slots numbers old marked i c.loop-number-test.true holds
+            (λ d at. IsAt-none slots (get_or numbers i 0) d w.in_default.ensures.exact at));
       }
     ]
 

@@ -8,6 +8,7 @@ pub returns : goal.returns
 returns c =
     let old = c.self.inside.store in
     record {
-      exact = without_values-becomes old c.drop_clauses.new.self (without_number (live_in c.self.inside.store) c.args.number) old.next c.drop_clauses.ensures.exact
+      exact = without_values-becomes old c.drop_clauses.new.self (without_number (live_in c.self.inside.store) c.args.number) old.next
+          c.drop_clauses.ensures.exact
           ∙ ap (λ (s : State). record s { live = without_number s.live c.args.number; values = None }) c.self.view_is;
     }

@@ -14,7 +14,8 @@ put-requires-clause-proper c =
     let old = c.args.self.now.arena.variables in
     let order : AscendsAs clause c.in_ok-literals.literals.items = c.in_ok-literals.ensures in
     let proper = IsProper-ascends old clause c.in_ok-literals.literals.items c.requires.proper order in
-    let variables : old ≡ c.reserve.new.self.variables = sym (c.reserve.ensures.same_clauses.variables ∙ ap (λ (p : StoreState). p.arena.variables) c.self.view_is) in
+    let variables : old ≡ c.reserve.new.self.variables = sym (c.reserve.ensures.same_clauses.variables
+    ∙ ap (λ (p : StoreState). p.arena.variables) c.self.view_is) in
     subst (λ (n : ℕ). IsProper n c.as_slice.result.now) variables (subst (IsProper old) (sym c.as_slice.ensures.value) proper)
 
 pub invariant_of-self-2 : goal.invariant_of-self-2
@@ -23,16 +24,20 @@ invariant_of-self-2 c =
     let old = c.args.self.now.arena.variables in
     let order : AscendsAs clause c.in_ok-literals.literals.items = c.in_ok-literals.ensures in
     let shown = IsProper-ascends old clause c.in_ok-literals.literals.items c.requires.proper order in
-    let variables : old ≡ c.reserve.new.self.variables = sym (c.reserve.ensures.same_clauses.variables ∙ ap (λ (p : StoreState). p.arena.variables) c.self.view_is) in
+    let variables : old ≡ c.reserve.new.self.variables = sym (c.reserve.ensures.same_clauses.variables
+    ∙ ap (λ (p : StoreState). p.arena.variables) c.self.view_is) in
     let proper = subst (λ (n : ℕ). IsProper n c.as_slice.result.now) variables (subst (IsProper old) (sym c.as_slice.ensures.value) shown) in
     let parts = parts_of c.self.inside in
     let room : StoreState = record parts { arena = c.reserve.new.self } in
     let label : Label = record { number = None; goes = false } in
-    let labels : c.put.new.labels.items ≡ parts.labels ++ label ∷ [] = c.put.ensures.label ∙ ap (λ (ls : List Label). ls ++ label ∷ []) c.reserve-2.ensures.items in
+    let labels : c.put.new.labels.items ≡ parts.labels ++ label ∷ [] =
+    c.put.ensures.label ∙ ap (λ (ls : List Label). ls ++ label ∷ []) c.reserve-2.ensures.items in
     let kept = IsKept-same parts c.reserve.new.self c.self.invariant.kept c.reserve.ensures.same_clauses in
     record {
-      kept = subst (λ (ls : List Label). IsKept (record { arena = c.put.new.arena; labels = ls; trail = c.put.new.trail; next = c.self.inside.next })) (sym labels)
-          (IsKept-given room c.put.new.arena c.put.new.trail c.put.result.place c.as_slice.result.now kept c.put.ensures.clause proper c.put.ensures.counted c.put.ensures.only);
+      kept = subst (λ (ls : List Label). IsKept (record { arena = c.put.new.arena; labels = ls; trail = c.put.new.trail; next = c.self.inside.next }))
+          (sym labels)
+          (IsKept-given room c.put.new.arena c.put.new.trail c.put.result.place c.as_slice.result.now kept c.put.ensures.clause proper c.put.ensures.counted
+          c.put.ensures.only);
       marks = c.self.invariant.marks ∙ sym (c.put.ensures.clause.variables ∙ c.reserve.ensures.same_clauses.variables);
     }
 
@@ -43,9 +48,11 @@ returns-clause-added c =
     let order : AscendsAs clause c.in_ok-literals.literals.items = c.in_ok-literals.ensures in
     let parts = parts_of c.self.inside in
     let label : Label = record { number = None; goes = false } in
-    let labels : c.put.new.labels.items ≡ parts.labels ++ label ∷ [] = c.put.ensures.label ∙ ap (λ (ls : List Label). ls ++ label ∷ []) c.reserve-2.ensures.items in
+    let labels : c.put.new.labels.items ≡ parts.labels ++ label ∷ [] =
+    c.put.ensures.label ∙ ap (λ (ls : List Label). ls ++ label ∷ []) c.reserve-2.ensures.items in
     let new : StoreState = record { arena = c.put.new.arena; labels = c.put.new.labels.items; trail = c.put.new.trail; next = c.self.inside.next } in
-    let becomes = Becomes-given_after parts c.reserve.new.self c.put.new.arena c.put.new.trail c.put.result.place literals c.self.invariant.kept c.reserve.ensures.same_clauses c.put.ensures.clause c.put.ensures.only in
+    let becomes = Becomes-given_after parts c.reserve.new.self c.put.new.arena c.put.new.trail c.put.result.place literals c.self.invariant.kept
+    c.reserve.ensures.same_clauses c.put.ensures.clause c.put.ensures.only in
     let now : Becomes parts new (live_in parts ++ record { number = None; literals = literals } ∷ []) parts.next =
     subst (λ (ls : List Label). Becomes parts (record { arena = c.put.new.arena; labels = ls; trail = c.put.new.trail; next = c.self.inside.next })
     (live_in parts ++ record { number = None; literals = literals } ∷ []) parts.next) (sym labels) becomes in (

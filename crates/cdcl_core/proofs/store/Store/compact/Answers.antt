@@ -18,5 +18,6 @@ returns c =
     let renames = c.compact.ensures.exact in
     let new : StoreState = record (parts_of c.self.inside) { arena = c.compact.new.self } in
     record {
-      exact = subst (λ (p : StoreState). Becomes p new (live_in p) p.next) c.self.view_is (Becomes-renamed renames.0 (parts_of c.self.inside) c.compact.new.self renames.1);
+      exact = subst (λ (p : StoreState). Becomes p new (live_in p) p.next) c.self.view_is
+          (Becomes-renamed renames.0 (parts_of c.self.inside) c.compact.new.self renames.1);
     }

@@ -39,7 +39,8 @@ invariant_of-self c =
     record {
       table = length-set table c.variable_of.result (Some e) ∙ kept.table;
       agrees = subst (λ (n : ℕ). Agrees (set table n (Some e)) c.push.new.items.items) (sym c.variable_of.ensures)
-          (subst (λ (es : List TrailEntry). Agrees (set table v (Some e)) es) (sym items) (Agrees-push table entries e kept.agrees (omega (arith, below, kept.table)) unassigned));
+          (subst (λ (es : List TrailEntry). Agrees (set table v (Some e)) es) (sym items)
+          (Agrees-push table entries e kept.agrees (omega (arith, below, kept.table)) unassigned));
       room = omega (arith, kept.room, c.push.ensures.capacity);
       literal_room = omega (arith, kept.literal_room, c.push-2.ensures.capacity);
       literals = c.push-2.ensures.exact ∙ (ap (λ (ls : List ℕ). ls ++ e.literal ∷ []) kept.literals

@@ -24,10 +24,12 @@ invariant_of-self c =
       same_variables = ap (λ (b : Choices). b.variables) c.remember.ensures.exact ∙ (kept.same_variables ∙ sym variables);
       few = omega (arith, kept.few, variables);
       fewer = c.put.ensures.few;
-      rise = subst (RiseFrom 0) (sym items) (RiseFrom-push 0 entries entry kept.rise (omega (arith, c.requires.from, level, kept.level)) (omega (arith, c.requires.to, level, kept.level)));
+      rise = subst (RiseFrom 0) (sym items) (RiseFrom-push 0 entries entry kept.rise (omega (arith, c.requires.from, level, kept.level))
+          (omega (arith, c.requires.to, level, kept.level)));
       level = sym (last_level-push 0 entries entry) ∙ ap (last_level 0) (sym items);
       settled = omega (arith, kept.settled, ap length items, length_push entries entry);
       held = subst (λ (es : List TrailEntry). AreLast es c.remember.new.self.lasts) (sym items)
           (subst (AreLast (entries ++ entry ∷ [])) (sym lasts)
-          (AreLast-push entries c.self.inside.branching.lasts entry kept.held unassigned (ap (λ (ls : List Bool). get_or ls (variable_of c.args.literal) false) (sym lasts) ∙ c.remember.ensures.held)));
+          (AreLast-push entries c.self.inside.branching.lasts entry kept.held unassigned
+          (ap (λ (ls : List Bool). get_or ls (variable_of c.args.literal) false) (sym lasts) ∙ c.remember.ensures.held)));
     }

@@ -11,7 +11,8 @@ returns-clause-exact c =
     record {
       variables = c.cut.ensures.variables ∙ ap (λ (s : State). s.variables) c.self.view_is;
       level = refl;
-      settled = c.min-self-inside.ensures ∙ (ap (min c.self.inside.settled) c.len.ensures.exact ∙ ap (λ (s : State). min s.settled (length new)) c.self.view_is);
+      settled = c.min-self-inside.ensures ∙ (ap (min c.self.inside.settled) c.len.ensures.exact
+          ∙ ap (λ (s : State). min s.settled (length new)) c.self.view_is);
       focus = ap (λ (s : State). s.focus) c.self.view_is;
       counts = ap (λ (s : State). s.counts) c.self.view_is;
       lasts = ap (λ (s : State). s.lasts) c.self.view_is;

@@ -18,4 +18,5 @@ returns-clause-fits c arena fits =
     let count = ap (λ (s : State). length s.entries) added ∙ length_push old.entries _ in
     let variables = ap (λ (s : State). s.variables) added in
     subst (λ (s : State). Fits s arena) (sym added)
-    (Fits-entry old arena _ c.args.literal None fits tt c.requires.unassigned (omega (arith, c.assign-2.ensures.few, count, variables)) (none_pending old _ c.requires.settled))
+    (Fits-entry old arena _ c.args.literal None fits tt c.requires.unassigned (omega (arith, c.assign-2.ensures.few, count, variables))
+    (none_pending old _ c.requires.settled))

@@ -14,5 +14,6 @@ returns-clause-fits c arena fits forced =
     let variables = ap (λ (s : State). s.variables) added in
     let level = ap (λ (s : State). s.level) c.assign.view_is in
     subst (λ (s : State). Fits s arena) (sym added)
-    (Fits-entry old arena c.assign.inside.level c.args.literal (Some c.args.reason) fits forced c.requires.unassigned (omega (arith, c.assign-2.ensures.few, count, variables))
+    (Fits-entry old arena c.assign.inside.level c.args.literal (Some c.args.reason) fits forced c.requires.unassigned
+    (omega (arith, c.assign-2.ensures.few, count, variables))
     (subst (λ (n : ℕ). All (λ (e : TrailEntry). e.level ≡ n) (drop old.settled old.entries)) (sym level) fits.pending))

@@ -14,11 +14,13 @@ loop-at-preserved c =
     let old = c.args.self.now in
     let arena = c.args.arena.now in
     let trail = c.loop-at.self in
-    let held : PassHolds old trail arena c.loop-at.grows (Some c.in-Some.clause) = subst (PassHolds old trail arena c.loop-at.grows) c.in-Some.is c.loop-at.invariant in
+    let held : PassHolds old trail arena c.loop-at.grows (Some c.in-Some.clause) =
+    subst (PassHolds old trail arena c.loop-at.grows) c.in-Some.is c.loop-at.invariant in
     elim c.match-visit_clause.branch [
       | in-Grows w ↦
           subst (λ (g : Bool). PassHolds old c.visit_clause.new.self arena g c.next-at.result) (sym w.grows-is)
-          (PassHolds-grows old trail c.visit_clause.new.self arena c.loop-at.grows c.in-Some.clause c.next-at.result held c.next-at.ensures.found c.visit_clause.ensures.grows c.visit_clause.ensures.fits w.in-Grows.ensures.visited)
+          (PassHolds-grows old trail c.visit_clause.new.self arena c.loop-at.grows c.in-Some.clause c.next-at.result held c.next-at.ensures.found
+          c.visit_clause.ensures.grows c.visit_clause.ensures.fits w.in-Grows.ensures.visited)
       | in-Rests w ↦
           let rests = w.in-Rests.ensures.visited in
           subst (λ (g : Bool). PassHolds old c.visit_clause.new.self arena g c.next-at.result) (sym w.grows-is)

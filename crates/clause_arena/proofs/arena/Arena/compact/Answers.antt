@@ -36,7 +36,8 @@ returns-clause-exact c =
       f,
       record {
         variables = ap (λ (s : State). s.variables) c.self.view_is;
-        live = ap (held_from 0) now ∙ (held_from-gaps f 0 0 slots (λ k h. let same : 0 + k ≡ k = omega arith in let more : f k ≡ 0 + full_count (take k slots) = omega arith in ap f same ∙ more)
+        live = ap (held_from 0) now ∙ (held_from-gaps f 0 0 slots (λ k h. let same : 0 + k ≡ k = omega arith in
+            let more : f k ≡ 0 + full_count (take k slots) = omega arith in ap f same ∙ more)
             ∙ ap (λ (s : State). map (renamed f) s.live) c.self.view_is);
       },
       c.rename.ensures ∙ ap (λ (xs : List (List ℕ)). map (renumbered (λ (place : ℕ). full_count (take place xs))) c.args.refs.now) lent,

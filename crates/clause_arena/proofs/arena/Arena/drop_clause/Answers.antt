@@ -10,7 +10,8 @@ use Rattle.clause_arena.proofs.arena.Arena.drop_clause.Goals as goal
 pub free-requires : goal.free-requires
 free-requires c =
     let slots = c.self.inside.slots in
-    let live = live_slot (contents slots.items) c.args.clause.place (subst (λ (s : State). IsLive s c.args.clause.place) (sym c.self.view_is) c.requires.live) in
+    let live = live_slot (contents slots.items) c.args.clause.place
+    (subst (λ (s : State). IsLive s c.args.clause.place) (sym c.self.view_is) c.requires.live) in
     omega (arith, live.0, length-contents slots.items, slots.ok.0, c.place.ensures)
 
 pub invariant_of-self : goal.invariant_of-self

@@ -15,7 +15,8 @@ invariant_of-self c =
     let clause : IsClause c.self.inside.variables literals =
     subst (λ (n : ℕ). IsClause n literals) (sym variables) (record { in_range = c.requires.in_range; distinct = c.requires.distinct }) in
     record {
-      clauses = subst (λ (xs : List (List ℕ)). All (IsClause c.self.inside.variables) xs) (sym now) (All-push (IsClause c.self.inside.variables) (contents c.self.inside.slots.items) literals kept.clauses clause);
+      clauses = subst (λ (xs : List (List ℕ)). All (IsClause c.self.inside.variables) xs) (sym now)
+          (All-push (IsClause c.self.inside.variables) (contents c.self.inside.slots.items) literals kept.clauses clause);
       empty = search rules;
       room = omega arith;
       slot_room = λ some. absurd (omega arith);

@@ -4,5 +4,8 @@ use Rattle.explainer.proofs.fact_set.FactSet.has.Goals as goal
 
 pub returns : goal.returns
 returns c = record {
-  exact = rw (← c.self.view_is) ((λ t. found_there c.self.inside.facts.keys c.args.fact (sym c.contains.ensures ∙ t)), (λ m. c.contains.ensures ∙ there_found c.self.inside.facts.keys c.args.fact m));
+  exact = rw (← c.self.view_is) (
+    (λ t. found_there c.self.inside.facts.keys c.args.fact (sym c.contains.ensures ∙ t)),
+    (λ m. c.contains.ensures ∙ there_found c.self.inside.facts.keys c.args.fact m),
+  );
 }

@@ -13,8 +13,10 @@ drop_fact-requires-clause-present c = c.requires.present c.loop-fact.fact-index 
 pub loop-fact-preserved : goal.loop-fact-preserved
 loop-fact-preserved c = record {
   settled = c.in_ok-drop_fact.ensures.settled;
-  exact = drops_more c.args.better.now c.args.present.now c.args.facts.now c.loop-fact.fact-index _ _ _ c.loop-fact-test.true c.loop-fact.invariant.exact c.in_ok-drop_fact.ensures.exact;
+  exact = drops_more c.args.better.now c.args.present.now c.args.facts.now c.loop-fact.fact-index _ _ _ c.loop-fact-test.true c.loop-fact.invariant.exact
+      c.in_ok-drop_fact.ensures.exact;
 }
 
 pub returns-clause-exact : goal.returns-clause-exact
-returns-clause-exact c = drops_all c.args.better.now c.args.present.now c.args.facts.now c.loop-fact.fact-index _ _ c.loop-fact-test.false c.loop-fact.invariant.exact
+returns-clause-exact c = drops_all c.args.better.now c.args.present.now c.args.facts.now c.loop-fact.fact-index _ _ c.loop-fact-test.false
+    c.loop-fact.invariant.exact

@@ -11,5 +11,6 @@ invariant_of-result c =
     let few : c.in-Ok.count < 2 ^ 32 = omega arith in
     let entries : c.deref.result.now ≡ gathered.entries.items = c.deref.ensures.value in
     rw c.in_ok-facts.ensures.items
-    (indexed gathered.places.keys gathered.entries.items c.args.facts.now c.in-Ok.count c.in_ok-numbers.numbers c.requires.distinct c.requires.few c.in_ok-places.ensures.whole c.in_ok-places.ensures.exact count few
+    (indexed gathered.places.keys gathered.entries.items c.args.facts.now c.in-Ok.count c.in_ok-numbers.numbers c.requires.distinct c.requires.few
+    c.in_ok-places.ensures.whole c.in_ok-places.ensures.exact count few
     (subst (λ (es : List KeyedNumber). AreGrouped es c.in-Ok.count c.in_ok-numbers.numbers) entries c.in_ok-numbers.ensures.exact))

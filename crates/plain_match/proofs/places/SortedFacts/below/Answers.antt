@@ -9,6 +9,9 @@ use Rattle.plain_match.proofs.places.SortedFacts.below.Goals as goal
 pub returns-clause-exact : goal.returns-clause-exact
 returns-clause-exact c =
     let list = c.deref.result.now in
-    let ordered : IsNonDecreasingBy (λ (e : KeyedFact). e.key) list = subst (λ (xs : List KeyedFact). IsNonDecreasingBy (λ (e : KeyedFact). e.key) xs) (sym c.deref.ensures.value) c.self.invariant in
-    let point = IsPartitionPoint-from_clause (λ (e : KeyedFact). ltb e.key c.args.key) list c.partition_point.result c.partition_point.ensures.partitioned (IsPartitionedBy-ltb (λ (e : KeyedFact). e.key) list c.args.key ordered) (λ a r q k. search rules) in
-    subst (λ (xs : List KeyedFact). IsCutBelow xs c.args.key c.partition_point.result) (c.deref.ensures.value ∙ c.self.view_is) (cut_below list c.args.key c.partition_point.result point)
+    let ordered : IsNonDecreasingBy (λ (e : KeyedFact). e.key) list =
+    subst (λ (xs : List KeyedFact). IsNonDecreasingBy (λ (e : KeyedFact). e.key) xs) (sym c.deref.ensures.value) c.self.invariant in
+    let point = IsPartitionPoint-from_clause (λ (e : KeyedFact). ltb e.key c.args.key) list c.partition_point.result c.partition_point.ensures.partitioned
+    (IsPartitionedBy-ltb (λ (e : KeyedFact). e.key) list c.args.key ordered) (λ a r q k. search rules) in
+    subst (λ (xs : List KeyedFact). IsCutBelow xs c.args.key c.partition_point.result) (c.deref.ensures.value ∙ c.self.view_is)
+    (cut_below list c.args.key c.partition_point.result point)

@@ -14,5 +14,6 @@ pub returns-else-are_blocked-clause-none : goal.returns-else-are_blocked-clause-
 returns-else-are_blocked-clause-none c =
     let priority : IsPriority c.args.self.now = subst IsPriority c.self.view_is c.self.invariant.kept in
     λ none core.
-    let all : All (IsBlocked c.args.self.now (Contains c.args.kept.now)) c.in_ok-dropped.dropped = core_blocks c.args.self.now c.args.kept.now c.in_ok-dropped.dropped priority c.in_ok-dropped.ensures.exact core in
+    let all : All (IsBlocked c.args.self.now (Contains c.args.kept.now)) c.in_ok-dropped.dropped =
+    core_blocks c.args.self.now c.args.kept.now c.in_ok-dropped.dropped priority c.in_ok-dropped.ensures.exact core in
     false≢true (c.if-are_blocked.ensures.exact.1 (rw c.as_slice.ensures.lent all))

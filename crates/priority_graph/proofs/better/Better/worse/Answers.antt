@@ -15,4 +15,5 @@ pub returns-clause-known : goal.returns-clause-known
 returns-clause-known c =
     let known : c.args.fact < c.self.inside.facts = subst (λ (p : Priority). c.args.fact < p.facts) (sym c.self.view_is) c.requires.known in
     rw (← c.self.view_is, c.list.ensures.lent)
-    (all_below _ c.self.invariant.kept c.args.fact _ (λ j m. c.self.invariant.kept.conflicting c.args.fact j ((c.self.invariant.worse_exact c.args.fact j known).0 m)))
+    (all_below _ c.self.invariant.kept c.args.fact _ (λ j m. c.self.invariant.kept.conflicting c.args.fact j
+    ((c.self.invariant.worse_exact c.args.fact j known).0 m)))

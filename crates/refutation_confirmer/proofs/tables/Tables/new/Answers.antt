@@ -30,9 +30,11 @@ returns c =
           inconsistent_size = c.in_ok-inconsistent.ensures.size ∙ ap length c.facts-facts.ensures.lent;
           inconsistent = inconsistent_facts kb c.args.concept names leading unsatisfiable facts leads met c.in_ok-inconsistent.inconsistent.items inconsistent;
           brave = brave_individuals kb c.args.concept names leading unsatisfiable facts leads met c.in_ok-safe.safe.items c.in_ok-brave.brave.items safe brave;
-          candidates = asked_individuals kb c.args.concept names leading unsatisfiable facts leads met c.in_ok-asked.asked.items c.in_ok-candidates.candidates.items candidates asked;
+          candidates = asked_individuals kb c.args.concept names leading unsatisfiable facts leads met c.in_ok-asked.asked.items
+              c.in_ok-candidates.candidates.items candidates asked;
           ascending = candidates.ascending;
-          brave_size = places_within c.in_ok-asked.asked.items c.in_ok-candidates.candidates.items _ candidates (c.in_ok-asked.ensures.size ∙ sym c.in_ok-brave.ensures.size);
+          brave_size = places_within c.in_ok-asked.asked.items c.in_ok-candidates.candidates.items _ candidates
+              (c.in_ok-asked.ensures.size ∙ sym c.in_ok-brave.ensures.size);
         },
       );
     }

@@ -14,4 +14,7 @@ pub returns : goal.returns
 returns c =
     let live = subst (λ (s : State). IsLive s.live c.args.number) (sym c.self.view_is) c.requires.live in
     let below = IsLive-below 0 c.self.inside.clauses.slots c.args.number live in
-    record { exact = rw (c.remove.ensures.exact, ← c.self.view_is) (shown-free c.self.inside.clauses.variables c.args.number c.self.inside.clauses.slots _ (omega arith) refl) }
+    record {
+      exact = rw (c.remove.ensures.exact, ← c.self.view_is)
+          (shown-free c.self.inside.clauses.variables c.args.number c.self.inside.clauses.slots _ (omega arith) refl);
+    }

@@ -9,5 +9,6 @@ pub returns-clause-exact : goal.returns-clause-exact
 returns-clause-exact c =
     let slots = c.self.inside.clauses.slots in
     let L = Contains c.args.assume.now in
-    rw (← c.self.view_is) (Refutes-same (HeldIn slots) (LiveIn (live_from 0 slots)) L L (λ d. (λ h. held-LiveIn 0 slots d h.0 h.1, LiveIn-held 0 slots d)) (λ l. (λ m. m, λ m. m))
+    rw (← c.self.view_is) (Refutes-same (HeldIn slots) (LiveIn (live_from 0 slots)) L L (λ d. (λ h. held-LiveIn 0 slots d h.0 h.1, LiveIn-held 0 slots d))
+    (λ l. (λ m. m, λ m. m))
     (c.refutes-refuted.result ≡ true) c.refutes-refuted.ensures.exact)

@@ -16,7 +16,8 @@ invariant_of-self c =
     let number : c.len-number.result ≡ length c.self.inside.slots.items = omega (arith, c.len-number.ensures, c.self.inside.slots.ok.0) in
     record {
       cover = c.enlist.ensures.others.same_length ∙ kept.cover;
-      kept = AreListed-others c.self.inside.variables c.len-number.result c.self.inside.slots.items c.self.inside.lists c.enlist.new.self number kept.kept c.enlist.ensures.others;
+      kept = AreListed-others c.self.inside.variables c.len-number.result c.self.inside.slots.items c.self.inside.lists c.enlist.new.self number kept.kept
+          c.enlist.ensures.others;
     }
 
 pub invariant_of-self-in_err-push : goal.invariant_of-self-in_err-push
@@ -26,7 +27,8 @@ invariant_of-self-in_err-push c =
     record {
       cover = c.enlist.ensures.others.same_length ∙ kept.cover;
       kept = rw c.in_err-push.ensures.items
-          (AreListed-others c.self.inside.variables c.len-number.result c.self.inside.slots.items c.self.inside.lists c.enlist.new.self number kept.kept c.enlist.ensures.others);
+          (AreListed-others c.self.inside.variables c.len-number.result c.self.inside.slots.items c.self.inside.lists c.enlist.new.self number kept.kept
+          c.enlist.ensures.others);
     }
 
 pub invariant_of-self-2 : goal.invariant_of-self-2

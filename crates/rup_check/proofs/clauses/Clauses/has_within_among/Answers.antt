@@ -24,7 +24,8 @@ loop-number-preserved c n d member at within =
           elim c.match-get.branch [
             | in-Some+else-is_within w ↦
                 let same = IsAt-one slots (get_or numbers i 0) d w.in-Some.small.now here w.in-Some.ensures.exact in
-                both_ways w.is_within.result w.if-is_within.false (w.is_within.ensures.1 (subst (λ (k : List ℕ). IsWithin k c.args.clause.now) (sym same) within))
+                both_ways w.is_within.result w.if-is_within.false (w.is_within.ensures.1
+                (subst (λ (k : List ℕ). IsWithin k c.args.clause.now) (sym same) within))
             | in_default w ↦ IsAt-none slots (get_or numbers i 0) d w.in_default.ensures.exact here
           ]
     ]

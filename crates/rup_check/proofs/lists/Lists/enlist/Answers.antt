@@ -10,20 +10,23 @@ pub returns-in_err-put_by_literal-clause-others :
 returns-in_err-put_by_literal-clause-others c =
     rw (← c.self.view_is) (others_kept c.args.number c.self.inside.by_literal c.deref_mut.result.now c.put_by_literal.new.lists
     c.self.inside.short c.self.inside.empty c.self.inside.short c.self.inside.empty
-    c.deref_mut.ensures.value c.deref_mut.ensures.len c.put_by_literal.ensures.same_length (λ l n _ m. c.put_by_literal.ensures.kept l n m) (λ n _ m. m) (λ n _ m. m))
+    c.deref_mut.ensures.value c.deref_mut.ensures.len c.put_by_literal.ensures.same_length (λ l n _ m. c.put_by_literal.ensures.kept l n m) (λ n _ m. m)
+    (λ n _ m. m))
 
 pub returns-in_err-put_where-clause-others :
     goal.returns-in_err-put_where-clause-others
 returns-in_err-put_where-clause-others c =
     rw (← c.self.view_is) (others_kept c.args.number c.self.inside.by_literal c.deref_mut.result.now c.put_by_literal.new.lists
     c.self.inside.short c.self.inside.empty c.put_where.new.list c.self.inside.empty
-    c.deref_mut.ensures.value c.deref_mut.ensures.len c.put_by_literal.ensures.same_length (λ l n _ m. c.put_by_literal.ensures.kept l n m) (λ n _ m. c.put_where.ensures.kept n m) (λ n _ m. m))
+    c.deref_mut.ensures.value c.deref_mut.ensures.len c.put_by_literal.ensures.same_length (λ l n _ m. c.put_by_literal.ensures.kept l n m)
+    (λ n _ m. c.put_where.ensures.kept n m) (λ n _ m. m))
 
 pub returns-clause-others : goal.returns-clause-others
 returns-clause-others c =
     rw (← c.self.view_is) (others_kept c.args.number c.self.inside.by_literal c.deref_mut.result.now c.put_by_literal.new.lists
     c.self.inside.short c.self.inside.empty c.put_where.new.list c.put_where-2.new.list
-    c.deref_mut.ensures.value c.deref_mut.ensures.len c.put_by_literal.ensures.same_length (λ l n _ m. c.put_by_literal.ensures.kept l n m) (λ n _ m. c.put_where.ensures.kept n m) (λ n _ m. c.put_where-2.ensures.kept n m))
+    c.deref_mut.ensures.value c.deref_mut.ensures.len c.put_by_literal.ensures.same_length (λ l n _ m. c.put_by_literal.ensures.kept l n m)
+    (λ n _ m. c.put_where.ensures.kept n m) (λ n _ m. c.put_where-2.ensures.kept n m))
 
 pub returns-clause-listed : goal.returns-clause-listed
 returns-clause-listed c =

@@ -26,6 +26,7 @@ invariant_of-self c =
           (subst (Agrees c.unmark.new.table) (sym c.clear.ensures.items)
           (Agrees-none c.unmark.new.table (λ l m.
           let gone = c.unmark.ensures.gone l m in
-          gone.1 (subst (λ (ls : List ℕ). Contains ls l) (sym c.deref.ensures.value) ((kept.agrees.same l).0 (subst (λ (t : List Bool). HasMark t l) c.deref_mut.ensures.value gone.0))))));
+          gone.1 (subst (λ (ls : List ℕ). Contains ls l) (sym c.deref.ensures.value)
+          ((kept.agrees.same l).0 (subst (λ (t : List Bool). HasMark t l) c.deref_mut.ensures.value gone.0))))));
       room = omega (arith, kept.room, c.clear.ensures.capacity);
     }

@@ -1,4 +1,0 @@
-use Rattle.cdcl_trail.proofs.tests.back.Goals as goal
-
-pub returns : goal.returns
-returns c = c.backjump.ensures.fits c.args.arena.now c.requires.fits

@@ -1,4 +1,0 @@
-use Rattle.cdcl_trail.proofs.tests.fix.Goals as goal
-
-pub propagate-requires : goal.propagate-requires
-propagate-requires c = c.fix.ensures.fits c.args.arena.now c.requires.fits

@@ -1,5 +1,0 @@
-use Rattle.priority_graph.proofs.ClashLemmas.{IsRing}
-use Rattle.priority_graph.proofs.tests.ring.Given as goal
-
-abbrev pub invariant-loop-fact : goal.invariant-loop-fact
-invariant-loop-fact l = IsRing l.facts l.fact l.listed.items

@@ -1,0 +1,7 @@
+//! Tests of moves, normal forms and closures.
+#![tactic(auto)]
+
+#[cfg(test)]
+mod closures;
+#[cfg(test)]
+mod steps;

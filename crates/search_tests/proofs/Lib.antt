@@ -1,0 +1,5 @@
+mod ArenasTestLemmas
+mod TrailsTestLemmas
+mod LessonsTestLemmas
+mod SolversTestLemmas
+mod CheckersTestLemmas
