@@ -138,6 +138,46 @@ loop-rest-preserved-in_default-2-8 c =
     rw c.after-progress.ensures.exact (ConfirmsSo-more a.kb.now (concept_query t.tables.concept) a.vocab.now.inds (tuples_of t.tables.candidates.items)
     a.report.now s.rest.now c.in-Some.more.now s.number s.progress c.in-Some.line s.invariant found.0 found.1 right)
 
+pub loop-rest-preserved-in_default-2-10 : goal.loop-rest-preserved-in_default-2-10
+loop-rest-preserved-in_default-2-10 c =
+    let a = c.args in
+    let t = c.in_ok-tables in
+    let s = c.loop-rest in
+    let found = rw c.in-Some.is at c.in_ok-line.ensures.exact in
+    let right = rw c.in_default-2.is at c.in_ok-rule.ensures.exact in
+    rw c.after-progress.ensures.exact (ConfirmsSo-more a.kb.now (concept_query t.tables.concept) a.vocab.now.inds (tuples_of t.tables.candidates.items)
+    a.report.now s.rest.now c.in-Some.more.now s.number s.progress c.in-Some.line s.invariant found.0 found.1 right)
+
+pub loop-rest-preserved-in_default-2-11 : goal.loop-rest-preserved-in_default-2-11
+loop-rest-preserved-in_default-2-11 c =
+    let a = c.args in
+    let t = c.in_ok-tables in
+    let s = c.loop-rest in
+    let found = rw c.in-Some.is at c.in_ok-line.ensures.exact in
+    let right = rw c.in_default-2.is at c.in_ok-rule.ensures.exact in
+    rw c.after-progress.ensures.exact (ConfirmsSo-more a.kb.now (concept_query t.tables.concept) a.vocab.now.inds (tuples_of t.tables.candidates.items)
+    a.report.now s.rest.now c.in-Some.more.now s.number s.progress c.in-Some.line s.invariant found.0 found.1 right)
+
+pub loop-rest-preserved-in_default-2-14 : goal.loop-rest-preserved-in_default-2-14
+loop-rest-preserved-in_default-2-14 c =
+    let a = c.args in
+    let t = c.in_ok-tables in
+    let s = c.loop-rest in
+    let found = rw c.in-Some.is at c.in_ok-line.ensures.exact in
+    let right = rw c.in_default-2.is at c.in_ok-rule.ensures.exact in
+    rw c.after-progress.ensures.exact (ConfirmsSo-more a.kb.now (concept_query t.tables.concept) a.vocab.now.inds (tuples_of t.tables.candidates.items)
+    a.report.now s.rest.now c.in-Some.more.now s.number s.progress c.in-Some.line s.invariant found.0 found.1 right)
+
+pub loop-rest-preserved-in_default-2-15 : goal.loop-rest-preserved-in_default-2-15
+loop-rest-preserved-in_default-2-15 c =
+    let a = c.args in
+    let t = c.in_ok-tables in
+    let s = c.loop-rest in
+    let found = rw c.in-Some.is at c.in_ok-line.ensures.exact in
+    let right = rw c.in_default-2.is at c.in_ok-rule.ensures.exact in
+    rw c.after-progress.ensures.exact (ConfirmsSo-more a.kb.now (concept_query t.tables.concept) a.vocab.now.inds (tuples_of t.tables.candidates.items)
+    a.report.now s.rest.now c.in-Some.more.now s.number s.progress c.in-Some.line s.invariant found.0 found.1 right)
+
 pub loop-rest-preserved : goal.loop-rest-preserved
 loop-rest-preserved c =
     let a = c.args in
