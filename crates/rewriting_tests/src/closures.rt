@@ -1,10 +1,8 @@
 //! What no clause says: closures worked by hand, member by member, and that memory is enough for them.
 
-ghost use Rattle.std.specs.Prelude.{IsTrue, All};
-ghost use Rattle.cq_terms.specs.Query.{StandsIn, IsMeant};
-
+use crate::queries::query;
 use cq_steps::{Closure, Move, negative_query};
-use cq_terms::{Axiom, Basic, Cq, NoMemory, QAtom, Role, Term};
+use cq_terms::{Axiom, Basic, QAtom, Role, Term};
 use perfect_ref::{CloseRefusal, close};
 use std::alloc::Global;
 use std::process::Abort;
@@ -36,38 +34,6 @@ fn some(inverse: bool) -> Basic {
 
 fn below(left: Basic, right: Basic) -> Axiom {
     Axiom::Sub { left, right }
-}
-
-fn stands_in(variable: u32, atom: &QAtom) -> bool
-    ensures { IsTrue result → StandsIn variable atom.now }
-{
-    match *atom {
-        QAtom::Concept { at, .. } => at == Term::Var(variable),
-        QAtom::Link { from, to, .. } => from == Term::Var(variable) || to == Term::Var(variable),
-    }
-}
-
-fn is_meant(term: &Term, body: &[QAtom]) -> bool
-    ensures { IsTrue result → IsMeant body.now term.now }
-{
-    match *term {
-        Term::Var(variable) => body.iter().any(|atom| stands_in(variable, atom)),
-        Term::Ind(_) => true,
-        Term::Any => false,
-    }
-}
-
-fn are_meant(head: &[Term], body: &[QAtom]) -> bool
-    ensures { IsTrue result → All (IsMeant body.now) head.now }
-{
-    head.iter().all(|term| is_meant(term, body))
-}
-
-fn query(rt: &impl Abort, alloc: Global, head: &[Term], body: &[QAtom]) -> Result<Cq, NoMemory> {
-    assert!(rt; !body.is_empty());
-    let safe = are_meant(head, body);
-    assert!(rt; safe);
-    Ok(Cq::new(Vec::from_slice(alloc, head)?, Vec::from_slice(alloc, body)?))
 }
 
 /// A query and axioms, how many members its closure has, their bodies one behind the other, and their steps but for the

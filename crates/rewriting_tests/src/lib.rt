@@ -4,4 +4,6 @@
 #[cfg(test)]
 mod closures;
 #[cfg(test)]
+mod queries;
+#[cfg(test)]
 mod steps;

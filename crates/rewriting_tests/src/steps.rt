@@ -1,8 +1,8 @@
 //! What no clause says: the normal forms and moves of queries worked by hand, and that memory is enough for them.
 
-ghost use Rattle.std.specs.Prelude.{◌≡◌, ◌∷◌, [], IsTrue, All, IfOk};
-ghost use Rattle.cq_terms.specs.Query.{StandsIn, IsMeant};
+ghost use Rattle.std.specs.Prelude.{◌≡◌, ◌∷◌, [], IfOk};
 
+use crate::queries::query;
 use cq_steps::{
     Closure, Member, Move, apply, closing_list_is_closure, derived_is_in_closure, negative_query,
     normal, reduce, successors,
@@ -59,38 +59,6 @@ fn role_axiom(left_inverse: bool, right_inverse: bool) -> Axiom {
             inverse: right_inverse,
         },
     }
-}
-
-fn stands_in(variable: u32, atom: &QAtom) -> bool
-    ensures { IsTrue result → StandsIn variable atom.now }
-{
-    match *atom {
-        QAtom::Concept { at, .. } => at == Term::Var(variable),
-        QAtom::Link { from, to, .. } => from == Term::Var(variable) || to == Term::Var(variable),
-    }
-}
-
-fn is_meant(term: &Term, body: &[QAtom]) -> bool
-    ensures { IsTrue result → IsMeant body.now term.now }
-{
-    match *term {
-        Term::Var(variable) => body.iter().any(|atom| stands_in(variable, atom)),
-        Term::Ind(_) => true,
-        Term::Any => false,
-    }
-}
-
-fn are_meant(head: &[Term], body: &[QAtom]) -> bool
-    ensures { IsTrue result → All (IsMeant body.now) head.now }
-{
-    head.iter().all(|term| is_meant(term, body))
-}
-
-fn query(rt: &impl Abort, alloc: Global, head: &[Term], body: &[QAtom]) -> Result<Cq, NoMemory> {
-    assert!(rt; !body.is_empty());
-    let safe = are_meant(head, body);
-    assert!(rt; safe);
-    Ok(Cq::new(Vec::from_slice(alloc, head)?, Vec::from_slice(alloc, body)?))
 }
 
 /// A query, the axioms, the body of its normal form, and the moves on that with the bodies of their results, one behind
@@ -175,6 +143,16 @@ fn reduce_steps_are_those_worked_by_hand(rt: HostRuntime) -> Result<(), Fail> {
             results: &[],
             heads: &[],
         },
+    ];
+    for row in &rows {
+        holds(&rt, rt.alloc(), row)?;
+    }
+    Ok(())
+}
+
+#[test]
+fn a_reduce_step_may_free_a_variable(rt: HostRuntime) -> Result<(), Fail> {
+    let rows = [
         Row {
             shows: "a variable of the head becomes an individual",
             head: &[X],
