@@ -1,9 +1,10 @@
 //! Small graphs of conflicts, with clauses and components worked by hand.
 
-ghost use Rattle.std.specs.Prelude.{◌≡◌, ◌<◌, ◌∷◌, [], IfOk};
+ghost use Rattle.std.specs.Prelude.{◌≡◌, ◌<◌, IfOk};
 ghost use Rattle.priority_graph.specs.Priority.{IsOver};
 
-use cq_terms::{Clash, Conflicts, IdLists, Ids, NoMemory, Pair};
+use crate::graphs::{alone, between, pair};
+use cq_terms::{Conflicts, IdLists, NoMemory};
 use priority_graph::{Better, restrict};
 use repair_encoder::{base_clauses, cause_clause, component};
 use std::alloc::Global;
@@ -30,7 +31,7 @@ fn without_a_priority_all_that_conflict_block(rt: HostRuntime) -> Result<(), Fai
 #[test]
 fn a_worse_fact_does_not_block(rt: HostRuntime) -> Result<(), Fail> {
     let conflicts = seven_facts(rt.alloc())?;
-    let better = restrict(rt.alloc(), &[over(0, 1), over(1, 2)], &conflicts)?;
+    let better = restrict(rt.alloc(), &[pair(0, 1), pair(1, 2)], &conflicts)?;
     let row = clauses_of(rt.alloc(), &conflicts, &better, 0)?;
     assert_eq!(rt;
         row.as_slice(),
@@ -41,16 +42,12 @@ fn a_worse_fact_does_not_block(rt: HostRuntime) -> Result<(), Fail> {
 
 #[test]
 fn a_fact_without_conflict_has_one_clause(rt: HostRuntime) -> Result<(), Fail> {
-    let conflicts = seven_facts(rt.alloc())?;
+    let conflicts = two_facts(rt.alloc())?;
     let better = Better::none(rt.alloc(), &conflicts)?;
-    assert_eq!(rt;
-        clauses_of(rt.alloc(), &conflicts, &better, 3)?.as_slice(),
-        [7, END].as_slice()
-    );
-    assert_eq!(rt;
-        clauses_of(rt.alloc(), &conflicts, &better, 4)?.as_slice(),
-        [8, END].as_slice()
-    );
+    let own = clauses_of(rt.alloc(), &conflicts, &better, 1)?;
+    assert_eq!(rt; own.as_slice(), [3, END].as_slice());
+    let free = clauses_of(rt.alloc(), &conflicts, &better, 0)?;
+    assert_eq!(rt; free.as_slice(), [0, END].as_slice());
     Ok(())
 }
 
@@ -139,39 +136,18 @@ fn row_of(alloc: Global, clauses: &IdLists) -> Result<Vec<u32>, NoMemory> {
     Ok(joined)
 }
 
-/// Facts 0 and 1 conflict, 1 and 2, and 5 and 6; 3 is self-inconsistent.
-fn seven_facts(alloc: Global) -> Result<Conflicts, NoMemory>
+/// Facts 0 and 1 conflict, 1 and 2, and 5 and 6.
+fn seven_facts(alloc: Global) -> Result<Conflicts, Fail>
     ensures facts { IfOk result (λ g. g.facts ≡ 7) }
 {
-    let mut own = Ids::new(alloc);
-    own.push(3)?;
-    let mut clashes = Vec::new(alloc);
-    clashes.push(Clash {
-        facts: own,
-        axiom: 0,
-        member: 0,
-    })?;
-    clashes.push(clash(alloc, 0, 1)?)?;
-    clashes.push(clash(alloc, 1, 2)?)?;
-    clashes.push(clash(alloc, 5, 6)?)?;
-    Conflicts::new(alloc, 7, clashes)
+    let conflicts = between(alloc, 7, &[(0, 1), (1, 2), (5, 6)])?;
+    Ok(conflicts)
 }
 
-fn over(upper: u32, lower: u32) -> Pair
-    ensures { result ≡ record { upper = upper; lower = lower } }
+/// Of two facts, 1 is self-inconsistent.
+fn two_facts(alloc: Global) -> Result<Conflicts, Fail>
+    ensures facts { IfOk result (λ g. g.facts ≡ 2) }
 {
-    Pair { upper, lower }
-}
-
-fn clash(alloc: Global, lower: u32, upper: u32) -> Result<Clash, NoMemory>
-    ensures { IfOk result (λ c. c ≡ record { facts = lower ∷ upper ∷ []; «axiom» = 0; member = 0 }) }
-{
-    let mut facts = Ids::new(alloc);
-    facts.push(lower)?;
-    facts.push(upper)?;
-    Ok(Clash {
-        facts,
-        axiom: 0,
-        member: 0,
-    })
+    let conflicts = alone(alloc, 2, 1)?;
+    Ok(conflicts)
 }

@@ -1,13 +1,13 @@
 //! Small graphs of conflicts, with cores and missing facts worked by hand from the definitions.
 
-ghost use Rattle.std.specs.Prelude.{◌≡◌, ◌<◌, ◌≤◌, ◌^◌, ◌∷◌, [], length, All, AllPairs, Contains, IsTrue, IfOk};
+ghost use Rattle.std.specs.Prelude.{◌≡◌, ◌<◌, All, Contains, IsTrue, IfOk};
 ghost use Rattle.clause_meaning.specs.Assignments.{IsTrueIn, Satisfies};
-ghost use Rattle.cq_terms.specs.Conflicts.{IsBefore};
 ghost use Rattle.cq_terms.specs.Lists.{IsAscending};
 ghost use Rattle.priority_graph.specs.Priority.{IsOver};
 ghost use Rattle.priority_graph.specs.Split.{has};
 
-use cq_terms::{Clash, Conflicts, IdLists, Ids, NoMemory, Pair};
+use crate::graphs::{alone, between, pair};
+use cq_terms::{Conflicts, IdLists, Ids, NoMemory};
 use explainer::{core_of, missing, scope_covers_components};
 use priority_graph::{Better, restrict};
 use repair_encoder::{base_clauses, component};
@@ -22,7 +22,7 @@ fn a_fact_that_is_better_than_a_kept_one_brings_another(rt: HostRuntime) -> Resu
     let conflicts = nine_facts(rt.alloc())?;
     let better = restrict(
         rt.alloc(),
-        &[over(2, 0), over(3, 1), over(5, 4), over(7, 6)],
+        &[pair(2, 0), pair(3, 1), pair(5, 4), pair(7, 6)],
         &conflicts,
     )?;
     // 0 keeps 2 and 3 out, of which 2 is better and is blocked by 1
@@ -39,7 +39,7 @@ fn a_core_keeps_no_more_than_it_needs(rt: HostRuntime) -> Result<(), Fail> {
     let conflicts = nine_facts(rt.alloc())?;
     let better = restrict(
         rt.alloc(),
-        &[over(2, 0), over(3, 1), over(5, 4), over(7, 6)],
+        &[pair(2, 0), pair(3, 1), pair(5, 4), pair(7, 6)],
         &conflicts,
     )?;
     // 2 is better than 0, and 1 is no better than 2
@@ -170,7 +170,7 @@ fn is_true(literal: u32, present: &[u32]) -> bool
 }
 
 /// Facts 0 and 1 conflict with 2 and 3; 4 to 8 are a path.
-fn nine_facts(alloc: Global) -> Result<Conflicts, NoMemory>
+fn nine_facts(alloc: Global) -> Result<Conflicts, Fail>
     ensures facts { IfOk result (λ g. g.facts ≡ 9) }
 {
     let listed = [
@@ -183,57 +183,16 @@ fn nine_facts(alloc: Global) -> Result<Conflicts, NoMemory>
         (6, 7),
         (7, 8),
     ];
-    between(alloc, 9, &listed)
-}
-
-/// The conflicts of these pairs of facts alone.
-fn between(alloc: Global, facts: u32, listed: &[(u32, u32)]) -> Result<Conflicts, NoMemory>
-    requires few_facts { facts ≤ 2 ^ 31 }
-    requires few { length listed.now < 2 ^ 31 }
-    requires upward { All (λ c. (c.0 < c.1) × (c.1 < facts)) listed.now }
-    requires ascending { AllPairs IsBefore listed.now }
-
-    ensures facts { IfOk result (λ g. g.facts ≡ facts) }
-{
-    let mut clashes = Vec::new(alloc);
-    for (lower, upper) in listed {
-        clashes.push(clash(alloc, *lower, *upper)?)?;
-    }
-    Conflicts::new(alloc, facts, clashes)
-}
-
-fn clash(alloc: Global, lower: u32, upper: u32) -> Result<Clash, NoMemory>
-    ensures { IfOk result (λ c. c ≡ record { facts = lower ∷ upper ∷ []; «axiom» = 0; member = 0 }) }
-{
-    let mut facts = Ids::new(alloc);
-    facts.push(lower)?;
-    facts.push(upper)?;
-    Ok(Clash {
-        facts,
-        axiom: 0,
-        member: 0,
-    })
+    let conflicts = between(alloc, 9, &listed)?;
+    Ok(conflicts)
 }
 
 /// One fact, which is self-inconsistent.
-fn one_fact(alloc: Global) -> Result<Conflicts, NoMemory>
+fn one_fact(alloc: Global) -> Result<Conflicts, Fail>
     ensures facts { IfOk result (λ g. g.facts ≡ 1) }
 {
-    let mut facts = Ids::new(alloc);
-    facts.push(0)?;
-    let mut clashes = Vec::new(alloc);
-    clashes.push(Clash {
-        facts,
-        axiom: 0,
-        member: 0,
-    })?;
-    Conflicts::new(alloc, 1, clashes)
-}
-
-fn over(upper: u32, lower: u32) -> Pair
-    ensures { result ≡ record { upper = upper; lower = lower } }
-{
-    Pair { upper, lower }
+    let conflicts = alone(alloc, 1, 0)?;
+    Ok(conflicts)
 }
 
 /// The causes 0 3, 3 4 and 2.

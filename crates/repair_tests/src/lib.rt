@@ -1,13 +1,11 @@
-//! Tests of conflicts, causes, the priority, its clauses and cores.
+//! Tests of the priority, its clauses and cores.
 #![tactic(auto)]
 
 #[cfg(test)]
-mod causes;
-#[cfg(test)]
 mod clauses;
 #[cfg(test)]
-mod conflicts;
-#[cfg(test)]
 mod cores;
+#[cfg(test)]
+mod graphs;
 #[cfg(test)]
 mod priorities;

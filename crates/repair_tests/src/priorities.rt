@@ -1,9 +1,10 @@
 //! What no clause says: that memory is enough for small priorities and long ones, and which cycle is named.
 
-ghost use Rattle.std.specs.Prelude.{◌≡◌, ◌<◌, ◌≤◌, ◌^◌, ◌∷◌, [], length, All, AllPairs, IfOk};
-ghost use Rattle.cq_terms.specs.Conflicts.{IsBefore, couples, own_facts};
+ghost use Rattle.std.specs.Prelude.{◌≡◌, ◌<◌, ◌≤◌, ◌^◌, ◌∷◌, [], length, All, IfOk};
+ghost use Rattle.cq_terms.specs.Conflicts.{couples, own_facts};
 
-use cq_terms::{Clash, Conflicts, Ids, NoMemory, Pair};
+use crate::graphs::{between, pair};
+use cq_terms::{Conflicts, Ids, NoMemory, Pair};
 use priority_graph::{Better, PriorityRefusal, restrict};
 use std::alloc::Global;
 use std::test::Fail;
@@ -112,26 +113,28 @@ fn cycle_of(alloc: Global, pairs: &[Pair], conflicts: &Conflicts) -> Result<Ids,
 }
 
 /// Fact 2 is better than 0, and 3 better than 1.
-fn two_over_two(alloc: Global) -> Result<Better, PriorityRefusal>
+fn two_over_two(alloc: Global) -> Result<Better, Fail>
     ensures facts { IfOk result (λ b. b.facts ≡ 4) }
     ensures own { IfOk result (λ b. b.own ≡ []) }
     ensures couples { IfOk result (λ b. b.couples ≡ (0, 2) ∷ (0, 3) ∷ (1, 2) ∷ (1, 3) ∷ []) }
 {
     let conflicts = two_against_two(alloc)?;
-    restrict(alloc, &[pair(2, 0), pair(3, 1)], &conflicts)
+    let better = restrict(alloc, &[pair(2, 0), pair(3, 1)], &conflicts)?;
+    Ok(better)
 }
 
 /// Facts 0 and 1 conflict with 2 and 3.
-fn two_against_two(alloc: Global) -> Result<Conflicts, NoMemory>
+fn two_against_two(alloc: Global) -> Result<Conflicts, Fail>
     ensures facts { IfOk result (λ g. g.facts ≡ 4) }
     ensures own { IfOk result (λ g. own_facts g.clashes ≡ []) }
     ensures couples { IfOk result (λ g. couples g.clashes ≡ (0, 2) ∷ (0, 3) ∷ (1, 2) ∷ (1, 3) ∷ []) }
 {
-    between(alloc, 4, &[(0, 2), (0, 3), (1, 2), (1, 3)])
+    let conflicts = between(alloc, 4, &[(0, 2), (0, 3), (1, 2), (1, 3)])?;
+    Ok(conflicts)
 }
 
 /// Each fact conflicts with the next, and the last with the first.
-fn ring(alloc: Global, facts: u32) -> Result<Conflicts, NoMemory>
+fn ring(alloc: Global, facts: u32) -> Result<Conflicts, Fail>
     requires some { 2 < facts }
     requires few { facts < 2 ^ 31 }
 
@@ -144,37 +147,6 @@ fn ring(alloc: Global, facts: u32) -> Result<Conflicts, NoMemory>
         listed.push((fact, fact + 1))?;
     }
     between(alloc, facts, listed.as_slice())
-}
-
-/// The conflicts of these pairs of facts alone.
-fn between(alloc: Global, facts: u32, listed: &[(u32, u32)]) -> Result<Conflicts, NoMemory>
-    requires few_facts { facts ≤ 2 ^ 31 }
-    requires few { length listed.now < 2 ^ 31 }
-    requires upward { All (λ c. (c.0 < c.1) × (c.1 < facts)) listed.now }
-    requires ascending { AllPairs IsBefore listed.now }
-
-    ensures facts { IfOk result (λ g. g.facts ≡ facts) }
-    ensures own { IfOk result (λ g. own_facts g.clashes ≡ []) }
-    ensures couples { IfOk result (λ g. couples g.clashes ≡ listed.now) }
-{
-    let mut clashes = Vec::new(alloc);
-    for (lower, upper) in listed {
-        clashes.push(clash(alloc, *lower, *upper)?)?;
-    }
-    Conflicts::new(alloc, facts, clashes)
-}
-
-fn clash(alloc: Global, lower: u32, upper: u32) -> Result<Clash, NoMemory>
-    ensures { IfOk result (λ c. c ≡ record { facts = lower ∷ upper ∷ []; «axiom» = 0; member = 0 }) }
-{
-    let mut facts = Ids::new(alloc);
-    facts.push(lower)?;
-    facts.push(upper)?;
-    Ok(Clash {
-        facts,
-        axiom: 0,
-        member: 0,
-    })
 }
 
 /// The first `count` pairs of each fact over the next and the last over the first.
@@ -199,10 +171,4 @@ fn numbers(alloc: Global, bound: u32) -> Result<Vec<u32>, NoMemory> {
         numbers.push(number)?;
     }
     Ok(numbers)
-}
-
-fn pair(upper: u32, lower: u32) -> Pair
-    ensures { result ≡ record { upper = upper; lower = lower } }
-{
-    Pair { upper, lower }
 }

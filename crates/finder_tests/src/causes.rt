@@ -111,7 +111,10 @@ fn query(alloc: Global, first: QAtom, more: &[QAtom]) -> Result<Cq, NoMemory>
 fn concept(pred: u32) -> QAtom
     ensures { result ≡ QAtom.Concept pred (Term.Var 0) }
 {
-    QAtom::Concept { pred, at: X }
+    QAtom::Concept {
+        pred,
+        at: Term::Var(0),
+    }
 }
 
 /// No conflict.
@@ -152,14 +155,15 @@ fn clash_of_two(alloc: Global, lower: u32, upper: u32) -> Result<Clash, NoMemory
 fn three_concepts(alloc: Global) -> Result<Index, NoMemory>
     ensures { IfOk result (λ index. length index ≡ 3) }
 {
-    Index::build(
+    let index = Index::build(
         alloc,
         &[
             Fact::Concept { pred: 0, ind: 0 },
             Fact::Concept { pred: 1, ind: 0 },
             Fact::Concept { pred: 2, ind: 0 },
         ],
-    )
+    )?;
+    Ok(index)
 }
 
 #[test]
@@ -193,7 +197,8 @@ fn own_conflict(alloc: Global) -> Result<Conflicts, NoMemory>
 fn one_concept(alloc: Global) -> Result<Index, NoMemory>
     ensures { IfOk result (λ index. length index ≡ 1) }
 {
-    Index::build(alloc, &[Fact::Concept { pred: 0, ind: 0 }])
+    let index = Index::build(alloc, &[Fact::Concept { pred: 0, ind: 0 }])?;
+    Ok(index)
 }
 
 #[test]
@@ -224,7 +229,7 @@ fn a_self_inconsistent_candidate_has_no_cause(rt: HostRuntime) -> Result<(), Fai
 fn three_links(alloc: Global) -> Result<Index, NoMemory>
     ensures { IfOk result (λ index. length index ≡ 3) }
 {
-    Index::build(
+    let index = Index::build(
         alloc,
         &[
             Fact::Link {
@@ -243,7 +248,8 @@ fn three_links(alloc: Global) -> Result<Index, NoMemory>
                 to: 0,
             },
         ],
-    )
+    )?;
+    Ok(index)
 }
 
 /// Fact 0 is self-inconsistent, and facts 1 and 2 conflict.

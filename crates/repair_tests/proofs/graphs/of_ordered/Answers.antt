@@ -3,7 +3,7 @@ use Rattle.std.proofs.lemmas.List.{take_all}
 use Rattle.std.proofs.lemmas.Result.{IfOk-weaker}
 use Rattle.cq_terms.specs.Conflicts.{ConflictGraph, couples, own_facts}
 use Rattle.priority_graph.proofs.ClashLemmas.{clashes_of, are_clashes, no_own, same_couples}
-use Rattle.repair_tests.proofs.priorities.between.Goals as goal
+use Rattle.repair_tests.proofs.graphs.of_ordered.Goals as goal
 
 pub new-requires : goal.new-requires
 new-requires c =

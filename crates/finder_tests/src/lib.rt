@@ -1,0 +1,7 @@
+//! Tests of conflicts, candidates and causes.
+#![tactic(auto)]
+
+#[cfg(test)]
+mod causes;
+#[cfg(test)]
+mod conflicts;
