@@ -12,7 +12,7 @@ use Rattle.cdcl_core.specs.declared.outcome.SolveFault.{SolveFault}
 use Rattle.cdcl_core.specs.declared.outcome.SolveFault.TheVariants as fault
 use Rattle.cdcl_core.specs.State.{State, LiveClause, LiveIn}
 use Rattle.cdcl_core.specs.Store.{StoreState}
-use Rattle.cdcl_core.specs.Logs.{Learned, LogContent, IsWhole, Appends, TearsAt, Rises}
+use Rattle.cdcl_core.specs.Logs.{Learned, LogContent, IsWhole, HasWhatItHad, Appends, TearsAt, Rises}
 use Rattle.cdcl_core.specs.Learning.{IsRefuted, IsNew, MayLearn, AreLearned, JoinNothing, with_learned, with_all}
 use Rattle.cdcl_core.specs.Solving.{Affords, Learns, LogGets, LogFailsOn, LogEnds}
 use Rattle.cdcl_core.specs.Seeking.{Seeks, FailsOn, bare}
@@ -90,6 +90,16 @@ LogFailsOn-torn : (before mid after : Option LogContent) (entries : List Learned
     → TearsAt mid after e.number e.clause → LogFailsOn before after entries e
 LogFailsOn-torn None mid after entries e got torn = tt
 LogFailsOn-torn (Some before) mid after entries e got torn = subst (λ (m : Option LogContent). TearsAt m after e.number e.clause) got torn
+
+-- or the log has what it had
+LogGets-stays : (before mid after : Option LogContent) (entries : List Learned) → LogGets before mid entries → HasWhatItHad mid after → LogGets before after entries
+LogGets-stays None None after entries whole same = same
+LogGets-stays None (Some mid) after entries whole same = subst IsWhole (sym same) whole
+LogGets-stays (Some before) mid after entries got same = subst (λ (m : Option LogContent). HasWhatItHad m after) got same
+
+pub HasWhatItHad-same : (before : Option LogContent) → HasWhatItHad before before
+HasWhatItHad-same None = tt
+HasWhatItHad-same (Some before) = refl
 
 pub LogGets-whole : (before mid : Option LogContent) (entries : List Learned) → IsWhole before → LogGets before mid entries → IsWhole mid
 LogGets-whole None mid entries whole got = got
@@ -197,7 +207,7 @@ Ended-fault start state new scope assume was now before mid after f g h entries 
   entries,
   (Ran-same start state new scope assume was now before mid f g entries ran same).learns,
   (
-    subst (λ (m : Option LogContent). LogGets before m entries) (sym told) ran.got,
+    LogGets-stays before mid after entries ran.got told,
     stays ∙ ran.faults,
   ),
 )

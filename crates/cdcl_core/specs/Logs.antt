@@ -30,10 +30,15 @@ TearsAt None after number clause = Unit {0}
 TearsAt (Some before) after number clause =
     after ≡ Some (record before { torn = Some (record { number = number; clause = clause }) })
 
+-- the log has what it had; one that told nothing may tell of no torn clause
+abbrev pub HasWhatItHad : Option LogContent → Option LogContent → Type 0
+HasWhatItHad None after = IsWhole after
+HasWhatItHad (Some before) after = after ≡ Some before
+
 -- that is so after a failure, and want of memory leaves what was
 abbrev pub Tears : Option LogContent → Option LogContent → ℕ → List ℕ → LogFault → Type 0
 Tears before after number clause fault.Failed = TearsAt before after number clause
-Tears before after number clause fault.NoMemory = after ≡ before
+Tears before after number clause fault.NoMemory = HasWhatItHad before after
 
 -- the greatest count, at which a count stays
 abbrev pub most_faults : ℕ

@@ -29,7 +29,7 @@ use Rattle.cdcl_core.specs.State.{State as Shown, LiveIn as ShownLive}
 use Rattle.cdcl_core.specs.Store.{StoreState, AreCounted}
 use Rattle.cdcl_core.specs.Shown.{literals_on}
 use Rattle.cdcl_core.specs.Changes.{live_in}
-use Rattle.cdcl_core.specs.Logs.{Learned, LogContent, Appends, TearsAt, Rises}
+use Rattle.cdcl_core.specs.Logs.{Learned, LogContent, Appends, HasWhatItHad, TearsAt, Rises}
 use Rattle.cdcl_core.specs.Learning.{IsRefuted, IsNew, with_learned}
 use Rattle.cdcl_core.specs.Solving.{IsModelOf}
 
@@ -127,7 +127,7 @@ LearnsOne old new scope before after was now =
 abbrev pub FailsOn : Shown → Shown → List ℕ → Option LogContent → Option LogContent → ℕ → ℕ → SolveFault → Type 0
 FailsOn old new scope before after was now fault.Log =
     (entry : Learned) × IsNew old scope entry × (new ≡ old) × TearsAt before after entry.number entry.clause × Rises was now
-FailsOn old new scope before after was now fault.NoMemory = (new ≡ old) × (after ≡ before) × (now ≡ was)
+FailsOn old new scope before after was now fault.NoMemory = (new ≡ old) × HasWhatItHad before after × (now ≡ was)
 
 -- the log has the clause, and no fault more
 abbrev pub LogTakes : Option LogContent → Option LogContent → ℕ → ℕ → ℕ → List ℕ → Type 0
@@ -136,7 +136,7 @@ LogTakes before after was now number clause = Appends before after number clause
 -- the log failed on it, or memory ran out
 abbrev pub LogRefuses : Option LogContent → Option LogContent → ℕ → ℕ → ℕ → List ℕ → SolveFault → Type 0
 LogRefuses before after was now number clause fault.Log = TearsAt before after number clause × Rises was now
-LogRefuses before after was now number clause fault.NoMemory = (after ≡ before) × (now ≡ was)
+LogRefuses before after was now number clause fault.NoMemory = HasWhatItHad before after × (now ≡ was)
 
 -- whether a search ended with a model
 abbrev pub is_model_of : Outcome → Bool

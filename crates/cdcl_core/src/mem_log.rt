@@ -117,6 +117,12 @@ impl ProofLog for MemLog {
 
     ghost faults = { λ log. log.faults };
 
+    ghost leads = { λ _ _. Unit {0} };
+
+    ghost leads_same = { λ _. tt };
+
+    ghost leads_on = { λ _ _ _ _ _. tt };
+
     fn learned(&mut self, number: u64, clause: &[u32]) -> Result<(), LogFault>
         requires whole { IsWhole (Some (content_of self.old)) }
 
@@ -124,6 +130,7 @@ impl ProofLog for MemLog {
         ensures torn { IfErr result (Tears (Some (content_of self.old)) (Some (content_of self.new)) number clause.now) }
         ensures fault { IfErr result (RisesAt self.old.faults self.new.faults) }
         ensures no_fault { OnOk result (self.new.faults ≡ self.old.faults) }
+        ensures leads { Unit {0} }
 
         ensures fails { result ≡ Err LogFault.Failed → IsTrue (is_call self.old.calls self.old.fail_at) }
         ensures passes { OnOk result (is_call self.old.calls self.old.fail_at ≡ false) }

@@ -13,6 +13,9 @@ pub trait ProofLog {
     /// How often it has failed. The count never falls, and stays at 2^64 - 1 once it is reached.
     ghost faults: { Self → ℕ };
 
+    /// What else holds between the log before calls and after them.
+    ghost leads: { Self → Self → Type 0 };
+
     /// Takes a clause with its number. `Failed` comes only where the log counted a fault in this call; the clause is then the torn
     /// one.
     fn learned(&mut self, number: u64, clause: &[u32]) -> Result<(), LogFault>
@@ -22,5 +25,11 @@ pub trait ProofLog {
         ensures torn { IfErr result (Tears (content self.old) (content self.new) number clause.now) }
 
         ensures fault { IfErr result (RisesAt (faults self.old) (faults self.new)) }
-        ensures no_fault { OnOk result (faults self.new ≡ faults self.old) };
+        ensures no_fault { OnOk result (faults self.new ≡ faults self.old) }
+        ensures leads { leads self.old self.new };
+
+    /// It holds where there is no call, and from one call to the next.
+    ghost leads_same: { (a : Self) → leads a a };
+
+    ghost leads_on: { (a b c : Self) → leads a b → leads b c → leads a c };
 }

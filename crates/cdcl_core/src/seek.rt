@@ -27,6 +27,7 @@ pub fn seek<L: ProofLog>(
         × LogEnds (bare store.new) scope.now assume.now budget.new
         (L.content log.old) (L.content log.new) (L.faults log.old) (L.faults log.new) entries result }
     ensures ends { IfOk result (StoreEnds store.new scope.now assume.now budget.new) }
+    ensures leads { L.leads log.old log.new }
 {
     if !store.begin(scope) {
         return Ok(Outcome::Refuted);

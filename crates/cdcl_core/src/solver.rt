@@ -133,6 +133,7 @@ impl Solver {
         ensures ends { IfOk result (Ends self.new scope.now assume.now budget.new) }
 
         ensures no_values { OnErr result (self.new.values ≡ None) }
+        ensures leads { L.leads log.old log.new }
     {
         self.found = false;
         let outcome = seek(&mut self.store, scope, assume, budget, log)?;

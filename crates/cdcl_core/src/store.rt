@@ -198,6 +198,7 @@ impl Store {
             (L.content log.old) (L.content log.new) (L.faults log.old) (L.faults log.new)) }
         ensures failed { IfErr result (FailsOn (bare self.old) (bare self.new) self.old.trail.focus
             (L.content log.old) (L.content log.new) (L.faults log.old) (L.faults log.new)) }
+        ensures leads { L.leads log.old log.new }
     {
         let lesson = prepare(
             &mut self.arena,
@@ -294,6 +295,7 @@ fn write_learned<L: ProofLog>(log: &mut L, number: u64, literals: &[u32]) -> Res
 
     ensures taken { OnOk result (LogTakes (L.content log.old) (L.content log.new) (L.faults log.old) (L.faults log.new) number literals.now) }
     ensures refused { IfErr result (LogRefuses (L.content log.old) (L.content log.new) (L.faults log.old) (L.faults log.new) number literals.now) }
+    ensures leads { L.leads log.old log.new }
 {
     match log.learned(number, literals) {
         Ok(()) => Ok(()),

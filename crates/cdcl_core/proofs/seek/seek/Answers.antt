@@ -15,6 +15,7 @@ loop-clause-init g c = (
     seeks = c.begin.ensures.seeks c.if-not-begin.false c.args.assume.now c.requires.askable.assumed;
     focus = c.begin.ensures.focus;
   },
+  g.met.L.ProofLog.leads_same c.args.log.now,
 )
 
 pub returns-in-Refuted-clause-ends : goal.returns-in-Refuted-clause-ends
@@ -80,4 +81,8 @@ loop-clause-preserved g c =
             (c.in-Ok.ensures.seeks c.args.assume.now c.in-Falsified.level stops.0);
         focus = c.in-Ok.ensures.focus ∙ focus;
       },
+      g.met.L.ProofLog.leads_on c.args.log.now c.loop-clause.log c.learn.new.log c.loop-clause.invariant.2 c.learn.ensures.leads,
     )
+
+pub returns-in-Err-clause-leads : goal.returns-in-Err-clause-leads
+returns-in-Err-clause-leads g c = g.met.L.ProofLog.leads_on c.args.log.now c.loop-clause.log c.learn.new.log c.loop-clause.invariant.2 c.learn.ensures.leads

@@ -8,6 +8,7 @@ abbrev pub invariant-loop-clause : goal.invariant-loop-clause
 invariant-loop-clause g l = (entries : List Learned)
     × RunHolds (bare l.fn.store) l.scope l.assume l.fn.budget l.budget (g.L.ProofLog.content l.fn.log) (g.L.ProofLog.content l.log)
     (g.L.ProofLog.faults l.fn.log) (g.L.ProofLog.faults l.log) l.store l.assumed entries
+    × g.L.ProofLog.leads l.fn.log l.log
 
 abbrev pub decreases-loop-clause : goal.decreases-loop-clause
 decreases-loop-clause g l = l.budget.limit - l.budget.used
