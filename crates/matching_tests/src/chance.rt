@@ -1,8 +1,9 @@
 //! Tables and queries by chance, the same in each run.
 
-ghost use Rattle.std.specs.Prelude.{◌≡◌, ◌↔◌, Contains, IfOk, IsTrue};
+ghost use Rattle.std.specs.Prelude.{IfOk};
 ghost use Rattle.cq_terms.specs.Knowledge.{AreDistinct};
 
+use crate::tables::put;
 use cq_terms::{Cq, Fact, NoMemory, QAtom, Term};
 use std::alloc::Global;
 
@@ -32,38 +33,6 @@ fn some_fact(seed: &mut u64) -> Fact {
             to: to - 1,
         },
     }
-}
-
-/// Whether the facts are the same.
-fn is_same(left: Fact, right: Fact) -> bool
-    ensures exact { IsTrue result ↔ (left ≡ right) }
-{
-    left == right
-}
-
-/// Whether the fact stands among them.
-fn has(facts: &[Fact], fact: Fact) -> bool
-    ensures exact { IsTrue result ↔ Contains facts.now fact }
-{
-    for known in facts {
-        if is_same(*known, fact) {
-            return true;
-        }
-    }
-    false
-}
-
-/// Appends the fact, where it doesn't stand there yet.
-fn put(facts: &mut Vec<Fact>, fact: Fact) -> Result<(), NoMemory>
-    requires distinct { AreDistinct facts.old.items }
-
-    ensures distinct { AreDistinct facts.new.items }
-{
-    if has(facts, fact) {
-        return Ok(());
-    }
-    facts.push(fact)?;
-    Ok(())
 }
 
 /// Up to ten distinct facts.

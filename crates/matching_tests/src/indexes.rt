@@ -1,5 +1,6 @@
 //! Tables whose lists are known.
 
+use crate::tables::indexed;
 use cq_terms::{Fact, Kind, NoMemory};
 use fact_index::Index;
 use std::alloc::Global;
@@ -7,7 +8,7 @@ use std::test::Fail;
 
 /// A concept and a role of the number 7, and a concept of the greatest number.
 fn table(alloc: Global) -> Result<Index, NoMemory> {
-    Index::build(
+    indexed(
         alloc,
         &[
             Fact::Concept { pred: 7, ind: 0 },
@@ -80,7 +81,7 @@ fn each_second_place_has_its_facts(rt: HostRuntime) -> Result<(), Fail> {
 
 #[test]
 fn an_empty_table_has_none(rt: HostRuntime) -> Result<(), Fail> {
-    let index = Index::build(rt.alloc(), &[])?;
+    let index = indexed(rt.alloc(), &[])?;
     assert!(rt; index.is_empty());
     assert_eq!(rt; index.with_pred(Kind::Concept, 0), [].as_slice());
     Ok(())

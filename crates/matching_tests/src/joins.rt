@@ -1,38 +1,12 @@
 //! Queries whose hits are known.
 
-ghost use Rattle.std.specs.Prelude.{◌≡◌};
-ghost use Rattle.std.specs.Option.{ForSome};
-ghost use Rattle.cq_terms.specs.Query.{StandsIn};
-
+use crate::queries::{link, member, query};
+use crate::tables::indexed;
 use cq_terms::{Cq, Fact, Hit, NoMemory, QAtom, Term};
 use fact_index::Index;
 use join_eval::{JoinRefusal, matches};
 use std::alloc::Global;
 use std::test::Fail;
-
-/// The query of these atoms, with a variable of the first one as its head, or with none.
-fn query(alloc: Global, head: Option<u32>, first: QAtom, more: &[QAtom]) -> Result<Cq, NoMemory>
-    requires meant { ForSome head (λ l. StandsIn l first) }
-{
-    let mut body = Vec::new(alloc);
-    body.push(first)?;
-    body.extend_from_slice(more)?;
-    let mut terms = Vec::new(alloc);
-    match head {
-        None => Ok(Cq::new(terms, body)),
-        Some(variable) => {
-            terms.push(Term::Var(variable))?;
-            Ok(Cq::new(terms, body))
-        }
-    }
-}
-
-/// The atom P(from, to), where P is 7.
-fn link(from: Term, to: Term) -> QAtom
-    ensures { result ≡ QAtom.Link 7 from to }
-{
-    QAtom::Link { pred: 7, from, to }
-}
 
 /// Whether the hits are these pairs of a tuple and an image, in this order.
 fn are(hits: &[Hit], rows: &[(&[u32], &[u32])]) -> bool {
@@ -55,7 +29,7 @@ fn answers(
 
 /// Two links to 2 and one back, and a concept of the same number.
 fn table(alloc: Global) -> Result<Index, NoMemory> {
-    Index::build(
+    indexed(
         alloc,
         &[
             Fact::Link {
@@ -118,7 +92,7 @@ fn hits_go_by_tuple_and_then_by_image(rt: HostRuntime) -> Result<(), Fail> {
 
 #[test]
 fn each_blank_is_its_own(rt: HostRuntime) -> Result<(), Fail> {
-    let index = Index::build(
+    let index = indexed(
         rt.alloc(),
         &[Fact::Link {
             pred: 7,
@@ -143,14 +117,10 @@ fn a_variable_twice_in_an_atom_is_one_individual(rt: HostRuntime) -> Result<(), 
 #[test]
 fn constants_and_kinds_are_compared(rt: HostRuntime) -> Result<(), Fail> {
     let index = table(rt.alloc())?;
-    let member = QAtom::Concept {
-        pred: 7,
-        at: Term::Var(0),
-    };
     let asked = query(
         rt.alloc(),
         Some(0),
-        member,
+        member(Term::Var(0)),
         &[link(Term::Var(0), Term::Ind(2))],
     )?;
     assert!(rt; answers(rt.alloc(), &index, asked, &[(&[0], &[0, 2])])?);
@@ -172,7 +142,7 @@ fn a_predicate_that_the_query_alone_names_has_no_hits(rt: HostRuntime) -> Result
 
 #[test]
 fn an_empty_table_has_no_hits(rt: HostRuntime) -> Result<(), Fail> {
-    let index = Index::build(rt.alloc(), &[])?;
+    let index = indexed(rt.alloc(), &[])?;
     let asked = query(rt.alloc(), None, link(Term::Any, Term::Any), &[])?;
     assert!(rt; answers(rt.alloc(), &index, asked, &[])?);
     Ok(())
@@ -271,7 +241,7 @@ fn the_hits_are_those_of_all_assignments(rt: HostRuntime) -> Result<(), Fail> {
             to: 0,
         },
     ];
-    let index = Index::build(rt.alloc(), &facts)?;
+    let index = indexed(rt.alloc(), &facts)?;
     let left = link(Term::Var(0), Term::Var(1));
     for right in [
         link(Term::Var(1), Term::Var(2)),

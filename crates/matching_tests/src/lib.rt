@@ -11,3 +11,7 @@ mod indexes;
 mod joins;
 #[cfg(test)]
 mod plain_matches;
+#[cfg(test)]
+mod queries;
+#[cfg(test)]
+mod tables;

@@ -1,10 +1,8 @@
 //! Queries whose images are known, and pairs that are none.
 
-ghost use Rattle.std.specs.Prelude.{◌≡◌};
-ghost use Rattle.std.specs.Option.{ForSome};
-ghost use Rattle.cq_terms.specs.Query.{StandsIn};
-
-use cq_terms::{Cq, Fact, Hit, NoMemory, QAtom, Term};
+use crate::queries::{link, member, query};
+use crate::tables::plain;
+use cq_terms::{Cq, Fact, Hit, NoMemory, Term};
 use plain_match::{PlainFacts, images_plain, matches_with};
 use std::alloc::Global;
 use std::test::Fail;
@@ -12,40 +10,9 @@ use std::test::Fail;
 /// A tuple and an image.
 type Pair<'a> = (&'a [u32], &'a [u32]);
 
-/// The query of two atoms, with a variable of the first one as its head, or with none.
-fn query(alloc: Global, head: Option<u32>, first: QAtom, second: QAtom) -> Result<Cq, NoMemory>
-    requires meant { ForSome head (λ l. StandsIn l first) }
-{
-    let mut body = Vec::new(alloc);
-    body.push(first)?;
-    body.push(second)?;
-    let mut terms = Vec::new(alloc);
-    match head {
-        None => Ok(Cq::new(terms, body)),
-        Some(variable) => {
-            terms.push(Term::Var(variable))?;
-            Ok(Cq::new(terms, body))
-        }
-    }
-}
-
-/// The atom R(from, to), where R is role 7.
-fn link(from: Term, to: Term) -> QAtom
-    ensures { result ≡ QAtom.Link 7 from to }
-{
-    QAtom::Link { pred: 7, from, to }
-}
-
-/// The atom A(at), where A is concept 7.
-fn member(at: Term) -> QAtom
-    ensures { result ≡ QAtom.Concept 7 at }
-{
-    QAtom::Concept { pred: 7, at }
-}
-
 /// The table R(0,1), R(1,2), A(2), R(1,1), A(1), with the numbers 0 to 4.
 fn table(alloc: Global) -> Result<PlainFacts, NoMemory> {
-    PlainFacts::build(
+    plain(
         alloc,
         &[
             Fact::Link {
@@ -110,7 +77,7 @@ fn a_join_has_the_images_of_its_shared_variable(rt: HostRuntime) -> Result<(), F
         rt.alloc(),
         Some(5),
         link(Term::Var(5), Term::Var(6)),
-        member(Term::Var(6)),
+        &[member(Term::Var(6))],
     )?)?;
     let pairs: [Pair; 3] = [(&[0], &[0, 4]), (&[1], &[1, 2]), (&[1], &[3, 4])];
     assert!(rt; have(rt.alloc(), &asked, &pairs)?);
@@ -137,7 +104,7 @@ fn two_atoms_may_become_one_fact(rt: HostRuntime) -> Result<(), Fail> {
         rt.alloc(),
         Some(5),
         link(Term::Var(5), Term::Any),
-        link(Term::Var(5), Term::Any),
+        &[link(Term::Var(5), Term::Any)],
     )?)?;
     let pairs: [Pair; 4] = [(&[0], &[0]), (&[1], &[1]), (&[1], &[1, 3]), (&[1], &[3])];
     assert!(rt; have(rt.alloc(), &asked, &pairs)?);
@@ -153,7 +120,7 @@ fn an_empty_head_has_the_empty_tuple(rt: HostRuntime) -> Result<(), Fail> {
         rt.alloc(),
         None,
         link(Term::Var(5), Term::Var(5)),
-        member(Term::Var(5)),
+        &[member(Term::Var(5))],
     )?)?;
     let pairs: [Pair; 1] = [(&[], &[3, 4])];
     assert!(rt; have(rt.alloc(), &asked, &pairs)?);
@@ -173,10 +140,10 @@ fn an_empty_head_has_the_empty_tuple(rt: HostRuntime) -> Result<(), Fail> {
 fn a_pair_of_two_queries_stands_once(rt: HostRuntime) -> Result<(), Fail> {
     let mut asked = Vec::new(rt.alloc());
     let from = link(Term::Var(5), Term::Any);
-    asked.push(query(rt.alloc(), Some(5), from, from)?)?;
+    asked.push(query(rt.alloc(), Some(5), from, &[from])?)?;
     let to_one = link(Term::Var(6), Term::Ind(1));
-    asked.push(query(rt.alloc(), Some(6), to_one, to_one)?)?;
-    asked.push(query(rt.alloc(), Some(6), to_one, member(Term::Ind(2)))?)?;
+    asked.push(query(rt.alloc(), Some(6), to_one, &[to_one])?)?;
+    asked.push(query(rt.alloc(), Some(6), to_one, &[member(Term::Ind(2))])?)?;
     let pairs: [Pair; 6] = [
         (&[0], &[0]),
         (&[0], &[0, 2]),

@@ -5,12 +5,15 @@ ghost use Rattle.std.specs.Prelude.{◌<◌, ◌^◌, length};
 use cq_terms::{Fact, Pair, Vocab};
 use fact_tables::{FactRefusal, FactTable, PairRefusal, one_reading, read_facts, read_pairs};
 use std::alloc::Global;
+use std::process::Abort;
 use std::test::Fail;
 
 fn table_of(alloc: Global, bytes: &[u8]) -> Result<FactTable, FactRefusal>
     requires { length bytes.now < 2 ^ 31 }
 {
-    read_facts(alloc, bytes, &mut Vocab::new(alloc))
+    let mut vocab = Vocab::new(alloc);
+    let table = read_facts(alloc, bytes, &mut vocab)?;
+    Ok(table)
 }
 
 #[test]
@@ -36,17 +39,29 @@ fn faulty_records_are_refused(rt: HostRuntime) -> Result<(), Fail> {
     let empty = table_of(rt.alloc(), b"A,a\nA,\n");
     assert_eq!(rt; empty.err(), Some(FactRefusal::EmptyField { number: 2 }));
     let table = table_of(rt.alloc(), b"A,a\nB,a\n")?;
-    let rows: [(&[u8], PairRefusal); 3] = [
-        (b"1,x\n", PairRefusal::BadNumber { number: 1 }),
-        (b"1,3\n", PairRefusal::NoSuchRecord { number: 1 }),
-        (
-            b"0,99999999999999999999\n",
-            PairRefusal::NoSuchRecord { number: 1 },
-        ),
-    ];
-    for (text, refusal) in rows {
-        let read = read_pairs(rt.alloc(), text, &table);
-        assert_eq!(rt; read.err(), Some(refusal), "of {text:?}");
-    }
+    let alloc = rt.alloc();
+    let no_such_record = PairRefusal::NoSuchRecord { number: 1 };
+    is_refused(&rt, alloc, b"1,3\n", &table, no_such_record);
+    is_refused(
+        &rt,
+        alloc,
+        b"0,99999999999999999999\n",
+        &table,
+        no_such_record,
+    );
+    let bad_number = PairRefusal::BadNumber { number: 1 };
+    is_refused(&rt, alloc, b"1,x\n", &table, bad_number);
     Ok(())
+}
+
+/// The pairs over the table are refused so.
+fn is_refused(
+    rt: &impl Abort,
+    alloc: Global,
+    text: &[u8],
+    table: &FactTable,
+    refusal: PairRefusal,
+) {
+    let read = read_pairs(alloc, text, table);
+    assert_eq!(rt; read.err(), Some(refusal), "of {text:?}");
 }

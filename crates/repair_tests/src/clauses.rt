@@ -3,9 +3,9 @@
 ghost use Rattle.std.specs.Prelude.{◌≡◌, ◌<◌, IfOk};
 ghost use Rattle.priority_graph.specs.Priority.{IsOver};
 
-use crate::graphs::{alone, between, pair};
+use crate::graphs::{alone, between, pair, ranked};
 use cq_terms::{Conflicts, IdLists, NoMemory};
-use priority_graph::{Better, restrict};
+use priority_graph::Better;
 use repair_encoder::{base_clauses, cause_clause, component};
 use std::alloc::Global;
 use std::test::Fail;
@@ -31,7 +31,7 @@ fn without_a_priority_all_that_conflict_block(rt: HostRuntime) -> Result<(), Fai
 #[test]
 fn a_worse_fact_does_not_block(rt: HostRuntime) -> Result<(), Fail> {
     let conflicts = seven_facts(rt.alloc())?;
-    let better = restrict(rt.alloc(), &[pair(0, 1), pair(1, 2)], &conflicts)?;
+    let better = ranked(rt.alloc(), &[pair(0, 1), pair(1, 2)], &conflicts)?;
     let row = clauses_of(rt.alloc(), &conflicts, &better, 0)?;
     assert_eq!(rt;
         row.as_slice(),
@@ -78,6 +78,14 @@ fn a_component_has_what_conflicts_reach(rt: HostRuntime) -> Result<(), Fail> {
         component(rt.alloc(), &conflicts, 6)?.as_slice(),
         [5, 6].as_slice()
     );
+    Ok(())
+}
+
+#[test]
+fn a_self_inconsistent_fact_is_its_own_component(rt: HostRuntime) -> Result<(), Fail> {
+    let conflicts = two_facts(rt.alloc())?;
+    let facts = component(rt.alloc(), &conflicts, 1)?;
+    assert_eq!(rt; facts.as_slice(), [1].as_slice());
     Ok(())
 }
 

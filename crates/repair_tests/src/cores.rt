@@ -6,10 +6,10 @@ ghost use Rattle.cq_terms.specs.Lists.{IsAscending};
 ghost use Rattle.priority_graph.specs.Priority.{IsOver};
 ghost use Rattle.priority_graph.specs.Split.{has};
 
-use crate::graphs::{alone, between, pair};
+use crate::graphs::{alone, between, pair, ranked};
 use cq_terms::{Conflicts, IdLists, Ids, NoMemory};
 use explainer::{core_of, missing, scope_covers_components};
-use priority_graph::{Better, restrict};
+use priority_graph::Better;
 use repair_encoder::{base_clauses, component};
 use std::alloc::Global;
 use std::test::Fail;
@@ -20,16 +20,16 @@ const END: u32 = 99;
 #[test]
 fn a_fact_that_is_better_than_a_kept_one_brings_another(rt: HostRuntime) -> Result<(), Fail> {
     let conflicts = nine_facts(rt.alloc())?;
-    let better = restrict(
+    let better = ranked(
         rt.alloc(),
         &[pair(2, 0), pair(3, 1), pair(5, 4), pair(7, 6)],
         &conflicts,
     )?;
     // 0 keeps 2 and 3 out, of which 2 is better and is blocked by 1
-    let square = core_row(rt.alloc(), &conflicts, &better, 0, &[0, 1], &[0], &[])?;
+    let square = row_of(rt.alloc(), &conflicts, &better, 0, &[0, 1], &[0], &[])?;
     assert_eq!(rt; square.as_slice(), [0, 1, END, 2, 3].as_slice());
     // 4 brings 6, which blocks 5, and 6 brings 8, which blocks 7
-    let path = core_row(rt.alloc(), &conflicts, &better, 4, &[4, 6, 8], &[4], &[])?;
+    let path = row_of(rt.alloc(), &conflicts, &better, 4, &[4, 6, 8], &[4], &[])?;
     assert_eq!(rt; path.as_slice(), [4, 6, 8, END, 5, 7].as_slice());
     Ok(())
 }
@@ -37,16 +37,16 @@ fn a_fact_that_is_better_than_a_kept_one_brings_another(rt: HostRuntime) -> Resu
 #[test]
 fn a_core_keeps_no_more_than_it_needs(rt: HostRuntime) -> Result<(), Fail> {
     let conflicts = nine_facts(rt.alloc())?;
-    let better = restrict(
+    let better = ranked(
         rt.alloc(),
         &[pair(2, 0), pair(3, 1), pair(5, 4), pair(7, 6)],
         &conflicts,
     )?;
     // 2 is better than 0, and 1 is no better than 2
-    let square = core_row(rt.alloc(), &conflicts, &better, 2, &[2, 3], &[2], &[])?;
+    let square = row_of(rt.alloc(), &conflicts, &better, 2, &[2, 3], &[2], &[])?;
     assert_eq!(rt; square.as_slice(), [2, END, 0, 1].as_slice());
     // 8 alone blocks 7
-    let path = core_row(rt.alloc(), &conflicts, &better, 7, &[4, 6, 8], &[], &[7])?;
+    let path = row_of(rt.alloc(), &conflicts, &better, 7, &[4, 6, 8], &[], &[7])?;
     assert_eq!(rt; path.as_slice(), [8, END, 7].as_slice());
     Ok(())
 }
@@ -55,7 +55,7 @@ fn a_core_keeps_no_more_than_it_needs(rt: HostRuntime) -> Result<(), Fail> {
 fn nothing_asked_keeps_nothing(rt: HostRuntime) -> Result<(), Fail> {
     let conflicts = nine_facts(rt.alloc())?;
     let better = Better::none(rt.alloc(), &conflicts)?;
-    let core = core_row(rt.alloc(), &conflicts, &better, 0, &[0, 1], &[], &[])?;
+    let core = row_of(rt.alloc(), &conflicts, &better, 0, &[0, 1], &[], &[])?;
     assert_eq!(rt; core.as_slice(), [END].as_slice());
     Ok(())
 }
@@ -64,7 +64,7 @@ fn nothing_asked_keeps_nothing(rt: HostRuntime) -> Result<(), Fail> {
 fn a_self_inconsistent_fact_is_dropped_alone(rt: HostRuntime) -> Result<(), Fail> {
     let conflicts = one_fact(rt.alloc())?;
     let better = Better::none(rt.alloc(), &conflicts)?;
-    let core = core_row(rt.alloc(), &conflicts, &better, 0, &[], &[], &[0])?;
+    let core = row_of(rt.alloc(), &conflicts, &better, 0, &[], &[], &[0])?;
     assert_eq!(rt; core.as_slice(), [END, 0].as_slice());
     Ok(())
 }
@@ -72,17 +72,50 @@ fn a_self_inconsistent_fact_is_dropped_alone(rt: HostRuntime) -> Result<(), Fail
 #[test]
 fn each_cause_has_its_least_fact_that_is_not_present(rt: HostRuntime) -> Result<(), Fail> {
     let causes = three_causes(rt.alloc())?;
-    let shared = missing(rt.alloc(), &causes, &[0, 1])?.ok_or("none")?;
+    let shared = missing_of(rt.alloc(), &causes, &[0, 1])?.ok_or("none")?;
     assert_eq!(rt; shared.as_slice(), [2, 3].as_slice());
-    assert!(rt; missing(rt.alloc(), &causes, &[0, 2, 4])?.is_none());
+    assert!(rt; missing_of(rt.alloc(), &causes, &[0, 2, 4])?.is_none());
     let no_causes = IdLists::new(rt.alloc());
-    let nothing = missing(rt.alloc(), &no_causes, &[0])?.ok_or("none")?;
+    let nothing = missing_of(rt.alloc(), &no_causes, &[0])?.ok_or("none")?;
     assert_eq!(rt; nothing.as_slice(), [].as_slice());
     Ok(())
 }
 
-/// The kept facts of a core, `END`, and the dropped ones; or nothing where the component of the fact doesn't have all that is to be
-/// kept or dropped, or the present facts don't satisfy its base clauses.
+/// The missing facts of the causes where these are present.
+fn missing_of(alloc: Global, causes: &IdLists, present: &[u32]) -> Result<Option<Ids>, NoMemory> {
+    let present = Ids::sorted(alloc, present)?;
+    let facts = missing(alloc, causes, present.as_slice())?;
+    Ok(facts)
+}
+
+/// The kept facts of a core, `END`, and the dropped ones; or nothing where the present facts lack one that is to be kept or have one that is
+/// to be dropped, or there is no such core.
+fn row_of(
+    alloc: Global,
+    conflicts: &Conflicts,
+    better: &Better,
+    fact: u32,
+    present: &[u32],
+    start: &[u32],
+    drop: &[u32],
+) -> Result<Vec<u32>, NoMemory>
+    requires over { IsOver better.now conflicts.now }
+    requires fact { fact < conflicts.now.facts }
+{
+    let sorted = Ids::sorted(alloc, present)?;
+    let present = sorted.as_slice();
+    if !are_within(start, present) {
+        return Ok(Vec::new(alloc));
+    }
+    if !are_outside(drop, present) {
+        return Ok(Vec::new(alloc));
+    }
+    let row = core_row(alloc, conflicts, better, fact, present, start, drop)?;
+    Ok(row)
+}
+
+/// The same of ascending present facts; nothing where the component of the fact doesn't have all that is to be kept or dropped, or the present
+/// facts don't satisfy its base clauses.
 fn core_row(
     alloc: Global,
     conflicts: &Conflicts,
@@ -127,6 +160,18 @@ fn are_within(numbers: &[u32], list: &[u32]) -> bool
 {
     for number in numbers {
         if !list.contains(number) {
+            return false;
+        }
+    }
+    true
+}
+
+/// Whether none of the numbers is in the list.
+fn are_outside(numbers: &[u32], list: &[u32]) -> bool
+    ensures { IsTrue result → All (λ i. ¬ Contains list.now i) numbers.now }
+{
+    for number in numbers {
+        if list.contains(number) {
             return false;
         }
     }

@@ -2,8 +2,10 @@
 
 ghost use Rattle.std.specs.Prelude.{◌≡◌, ◌<◌, ◌≤◌, ◌^◌, ◌∷◌, [], length, All, AllPairs, IfOk, IsTrue};
 ghost use Rattle.cq_terms.specs.Conflicts.{IsBefore, couples, own_facts};
+ghost use Rattle.priority_graph.specs.Priority.{IsOver};
 
 use cq_terms::{Clash, Conflicts, Ids, NoMemory, Pair};
+use priority_graph::{Better, PriorityRefusal, restrict};
 use std::alloc::Global;
 use std::test::Fail;
 
@@ -113,4 +115,57 @@ pub(crate) fn pair(upper: u32, lower: u32) -> Pair
     ensures { result ≡ record { upper = upper; lower = lower } }
 {
     Pair { upper, lower }
+}
+
+/// Whether all facts of the pairs are below the bound.
+fn are_known(pairs: &[Pair], facts: u32) -> bool
+    ensures exact { IsTrue result → All (λ p. (p.upper < facts) × (p.lower < facts)) pairs.now }
+{
+    for pair in pairs {
+        if !is_known(*pair, facts) {
+            return false;
+        }
+    }
+    true
+}
+
+/// Whether both facts of the pair are below the bound.
+fn is_known(pair: Pair, facts: u32) -> bool
+    ensures exact { IsTrue result → (pair.upper < facts) × (pair.lower < facts) }
+{
+    pair.upper < facts && pair.lower < facts
+}
+
+/// What `restrict` answers to a few pairs of facts of the table.
+fn tried(
+    alloc: Global,
+    pairs: &[Pair],
+    conflicts: &Conflicts,
+) -> Result<Result<Better, PriorityRefusal>, Fail>
+    ensures over { IfOk result (λ answer. IfOk answer (λ b. IsOver b conflicts.now)) }
+{
+    if !are_known(pairs, conflicts.facts()) {
+        return Err(Fail::from("these pairs are of other facts"));
+    }
+    if pairs.len() > 1_000_000 {
+        return Err(Fail::from("these pairs are too many"));
+    }
+    Ok(restrict(alloc, pairs, conflicts))
+}
+
+/// The priority by the pairs.
+pub(crate) fn ranked(alloc: Global, pairs: &[Pair], conflicts: &Conflicts) -> Result<Better, Fail>
+    ensures over { IfOk result (λ b. IsOver b conflicts.now) }
+{
+    let better = tried(alloc, pairs, conflicts)??;
+    Ok(better)
+}
+
+/// The cycle for which the pairs are refused, and no fact where they aren't.
+pub(crate) fn cycle_of(alloc: Global, pairs: &[Pair], conflicts: &Conflicts) -> Result<Ids, Fail> {
+    match tried(alloc, pairs, conflicts)? {
+        Ok(_) => Ok(Ids::new(alloc)),
+        Err(PriorityRefusal::Cycle { facts }) => Ok(facts),
+        Err(PriorityRefusal::NoMemory) => Err(Fail::from("no memory")),
+    }
 }

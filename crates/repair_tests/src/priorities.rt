@@ -3,9 +3,9 @@
 ghost use Rattle.std.specs.Prelude.{◌≡◌, ◌<◌, ◌≤◌, ◌^◌, ◌∷◌, [], length, All, IfOk};
 ghost use Rattle.cq_terms.specs.Conflicts.{couples, own_facts};
 
-use crate::graphs::{between, pair};
+use crate::graphs::{between, cycle_of, pair, ranked};
 use cq_terms::{Conflicts, Ids, NoMemory, Pair};
-use priority_graph::{Better, PriorityRefusal, restrict};
+use priority_graph::Better;
 use std::alloc::Global;
 use std::test::Fail;
 
@@ -86,7 +86,7 @@ fn both_pairs_of_one_conflict_are_a_cycle(rt: HostRuntime) -> Result<(), Fail> {
 fn a_long_chain_is_ordered_from_its_best(rt: HostRuntime) -> Result<(), Fail> {
     let conflicts = ring(rt.alloc(), 3000)?;
     let pairs = steps(rt.alloc(), 3000, 2999)?;
-    let better = restrict(rt.alloc(), pairs.as_slice(), &conflicts)?;
+    let better = ranked(rt.alloc(), pairs.as_slice(), &conflicts)?;
     assert_eq!(rt; better.linear(), numbers(rt.alloc(), 3000)?.as_slice());
     Ok(())
 }
@@ -100,18 +100,6 @@ fn a_long_cycle_is_named_whole(rt: HostRuntime) -> Result<(), Fail> {
     Ok(())
 }
 
-/// The cycle for which the pairs are refused, and no fact where they aren't.
-fn cycle_of(alloc: Global, pairs: &[Pair], conflicts: &Conflicts) -> Result<Ids, NoMemory>
-    requires few { length pairs.now < 2 ^ 31 }
-    requires named { All (λ p. (p.upper < conflicts.now.facts) × (p.lower < conflicts.now.facts)) pairs.now }
-{
-    match restrict(alloc, pairs, conflicts) {
-        Ok(_) => Ok(Ids::new(alloc)),
-        Err(PriorityRefusal::Cycle { facts }) => Ok(facts),
-        Err(PriorityRefusal::NoMemory) => Err(NoMemory),
-    }
-}
-
 /// Fact 2 is better than 0, and 3 better than 1.
 fn two_over_two(alloc: Global) -> Result<Better, Fail>
     ensures facts { IfOk result (λ b. b.facts ≡ 4) }
@@ -119,7 +107,7 @@ fn two_over_two(alloc: Global) -> Result<Better, Fail>
     ensures couples { IfOk result (λ b. b.couples ≡ (0, 2) ∷ (0, 3) ∷ (1, 2) ∷ (1, 3) ∷ []) }
 {
     let conflicts = two_against_two(alloc)?;
-    let better = restrict(alloc, &[pair(2, 0), pair(3, 1)], &conflicts)?;
+    let better = ranked(alloc, &[pair(2, 0), pair(3, 1)], &conflicts)?;
     Ok(better)
 }
 
@@ -146,16 +134,14 @@ fn ring(alloc: Global, facts: u32) -> Result<Conflicts, Fail>
     for fact in 1..facts - 1 {
         listed.push((fact, fact + 1))?;
     }
-    between(alloc, facts, listed.as_slice())
+    let conflicts = between(alloc, facts, listed.as_slice())?;
+    Ok(conflicts)
 }
 
 /// The first `count` pairs of each fact over the next and the last over the first.
 fn steps(alloc: Global, facts: u32, count: u32) -> Result<Vec<Pair>, NoMemory>
-    requires within { count ≤ facts }
-    requires few { facts < 2 ^ 31 }
-
-    ensures few { IfOk result (λ pairs. length pairs.items < 2 ^ 31) }
-    ensures named { IfOk result (λ pairs. All (λ p. (p.upper < facts) × (p.lower < facts)) pairs.items) }
+    requires some { 0 < facts }
+    requires few { count < 2 ^ 31 }
 {
     let mut pairs = Vec::new(alloc);
     for fact in 0..count {

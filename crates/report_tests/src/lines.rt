@@ -69,43 +69,69 @@ fn a_report_goes_to_the_sink_line_by_line(rt: HostRuntime) -> Result<(), Fail> {
 }
 
 #[test]
-fn further_lines_come_back(rt: HostRuntime) -> Result<(), Fail> {
+fn further_lines_come_back(rt: HostRuntime) {
     let alloc = rt.alloc();
-    // A head, a query and an end are read as JSON values.
-    for text in [
-        r#"{"axioms":2,"budget":0,"facts":2,"k":"head","keep":0,"repairs":"all","version":0}"#,
-        r#"{"axioms":4294967295,"budget":18446744073709551615,"facts":4294967295,"k":"head","keep":18446744073709551615,"repairs":"all","version":1}"#,
-        // A role, an individual and `_`; and two atoms made one.
-        r#"{"body":[["c",1,[7]],["r",0,0,null]],"head":[0,[7]],"k":"cq","move":["reduce",1,2],"of":4294967295,"parent":3}"#,
-        r#"{"body":[["r",4294967295,4294967295,[4294967295]]],"head":[4294967295],"k":"cq","move":["axiom",4294967295,4294967295],"of":"query","parent":4294967295}"#,
-        r#"{"answers":18446744073709551615,"ar":18446744073709551615,"brave":18446744073709551615,"iar":18446744073709551615,"k":"end","undecided":18446744073709551615}"#,
-    ] {
-        comes_back(&rt, alloc, text)?;
-        assert!(rt; !is_found_at_once(alloc, text)?, "of {text}");
+    come_back_by_value(
+        &rt,
+        alloc,
+        &[
+            // A head, a query and an end are read as JSON values.
+            r#"{"axioms":2,"budget":0,"facts":2,"k":"head","keep":0,"repairs":"all","version":0}"#,
+            r#"{"axioms":4294967295,"budget":18446744073709551615,"facts":4294967295,"k":"head","keep":18446744073709551615,"repairs":"all","version":1}"#,
+            // A role, an individual and `_`; and two atoms made one.
+            r#"{"body":[["c",1,[7]],["r",0,0,null]],"head":[0,[7]],"k":"cq","move":["reduce",1,2],"of":4294967295,"parent":3}"#,
+            r#"{"body":[["r",4294967295,4294967295,[4294967295]]],"head":[4294967295],"k":"cq","move":["axiom",4294967295,4294967295],"of":"query","parent":4294967295}"#,
+            r#"{"answers":18446744073709551615,"ar":18446744073709551615,"brave":18446744073709551615,"iar":18446744073709551615,"k":"end","undecided":18446744073709551615}"#,
+        ],
+    );
+    come_back_at_once(
+        &rt,
+        alloc,
+        &[
+            // All other lines need none.
+            r#"{"facts":[5],"k":"conflict","member":0,"of":1}"#,
+            r#"{"facts":[0,4294967295],"k":"conflict","member":4294967295,"of":4294967295}"#,
+            r#"{"candidate":1,"causes":[],"k":"ask","members":[],"tuple":[]}"#,
+            r#"{"candidate":4294967295,"causes":[[],[4294967295,0]],"k":"ask","members":[0,4294967295],"tuple":[4294967295]}"#,
+            r#"{"assume":[9],"k":"try","q":"ar"}"#,
+            r#"{"assume":[],"k":"try","q":"iar"}"#,
+            r#"{"assume":[4294967295],"k":"try","q":"brave"}"#,
+            r#"{"clause":[3,4294967295],"k":"learn","n":18446744073709551615}"#,
+            r#"{"dropped":[],"k":"core","kept":[4294967295],"n":18446744073709551615}"#,
+            r#"{"core":18446744073709551615,"how":"model","k":"done"}"#,
+            r#"{"core":null,"how":"refuted","k":"done"}"#,
+            r#"{"core":null,"how":"spent","k":"done"}"#,
+            r#"{"clauses":[],"k":"forget"}"#,
+            r#"{"clauses":[0,18446744073709551615],"k":"forget"}"#,
+            r#"{"ar":"undecided","brave":"yes","cores":[],"iar":"no","k":"answer","names":[],"tuple":[]}"#,
+            r#"{"ar":"yes","brave":"yes","cores":[18446744073709551615],"iar":"undecided","k":"answer","names":["",""],"tuple":[4294967295,0]}"#,
+        ],
+    );
+}
+
+/// The lines come back, and are read by a JSON value.
+fn come_back_by_value(rt: &impl Abort, alloc: Global, texts: &[&str]) {
+    for text in texts {
+        comes_back_so(rt, alloc, text, false);
     }
-    // All other lines need none.
-    for text in [
-        r#"{"facts":[5],"k":"conflict","member":0,"of":1}"#,
-        r#"{"facts":[0,4294967295],"k":"conflict","member":4294967295,"of":4294967295}"#,
-        r#"{"candidate":1,"causes":[],"k":"ask","members":[],"tuple":[]}"#,
-        r#"{"candidate":4294967295,"causes":[[],[4294967295,0]],"k":"ask","members":[0,4294967295],"tuple":[4294967295]}"#,
-        r#"{"assume":[9],"k":"try","q":"ar"}"#,
-        r#"{"assume":[],"k":"try","q":"iar"}"#,
-        r#"{"assume":[4294967295],"k":"try","q":"brave"}"#,
-        r#"{"clause":[3,4294967295],"k":"learn","n":18446744073709551615}"#,
-        r#"{"dropped":[],"k":"core","kept":[4294967295],"n":18446744073709551615}"#,
-        r#"{"core":18446744073709551615,"how":"model","k":"done"}"#,
-        r#"{"core":null,"how":"refuted","k":"done"}"#,
-        r#"{"core":null,"how":"spent","k":"done"}"#,
-        r#"{"clauses":[],"k":"forget"}"#,
-        r#"{"clauses":[0,18446744073709551615],"k":"forget"}"#,
-        r#"{"ar":"undecided","brave":"yes","cores":[],"iar":"no","k":"answer","names":[],"tuple":[]}"#,
-        r#"{"ar":"yes","brave":"yes","cores":[18446744073709551615],"iar":"undecided","k":"answer","names":["",""],"tuple":[4294967295,0]}"#,
-    ] {
-        comes_back(&rt, alloc, text)?;
-        assert!(rt; is_found_at_once(alloc, text)?, "of {text}");
+}
+
+/// The lines come back, and their texts need no JSON value.
+fn come_back_at_once(rt: &impl Abort, alloc: Global, texts: &[&str]) {
+    for text in texts {
+        comes_back_so(rt, alloc, text, true);
     }
-    Ok(())
+}
+
+fn comes_back_so(rt: &impl Abort, alloc: Global, text: &str, at_once: bool) {
+    match comes_back(rt, alloc, text) {
+        Ok(()) => {}
+        Err(_) => panic!(rt; "no line of {text}"),
+    }
+    match is_found_at_once(alloc, text) {
+        Ok(is_found) => assert!(rt; is_found == at_once, "of {text}"),
+        Err(_) => panic!(rt; "no line of {text}"),
+    }
 }
 
 #[test]
@@ -255,92 +281,109 @@ fn name_told(alloc: Global, text: &str) -> Result<String, Fail> {
 }
 
 #[test]
-fn altered_lines_are_none(rt: HostRuntime) -> Result<(), Fail> {
+fn altered_lines_are_none(rt: HostRuntime) {
     let alloc = rt.alloc();
-    for text in [
-        // Queries: no atom, `_` or another variable in the head, another atom and move, null alone, an index past 2^32 - 1.
-        r#"{"body":[],"head":[],"k":"cq","move":null,"of":"query","parent":null}"#,
-        r#"{"body":[["c",0,0]],"head":[null],"k":"cq","move":null,"of":"query","parent":null}"#,
-        r#"{"body":[["c",0,0]],"head":[1],"k":"cq","move":null,"of":"query","parent":null}"#,
-        r#"{"body":[["x",0,0]],"head":[],"k":"cq","move":null,"of":"query","parent":null}"#,
-        r#"{"body":[["c",0,0,0]],"head":[],"k":"cq","move":null,"of":"query","parent":null}"#,
-        r#"{"body":[["r",0,0]],"head":[],"k":"cq","move":null,"of":"query","parent":null}"#,
-        r#"{"body":[["c",0,[0,1]]],"head":[],"k":"cq","move":null,"of":"query","parent":null}"#,
-        r#"{"body":[["c",0,0]],"head":[],"k":"cq","move":["rename",0,0],"of":"query","parent":0}"#,
-        r#"{"body":[["c",0,0]],"head":[],"k":"cq","move":["axiom",0,0],"of":"query","parent":null}"#,
-        r#"{"body":[["c",0,0]],"head":[],"k":"cq","move":null,"of":"query","parent":0}"#,
-        r#"{"body":[["c",0,0]],"head":[],"k":"cq","move":null,"of":"axiom","parent":null}"#,
-        r#"{"body":[["c",4294967296,0]],"head":[],"k":"cq","move":null,"of":"query","parent":null}"#,
-        // Conflicts: no fact, three of them, null for a number.
-        r#"{"facts":[],"k":"conflict","member":1,"of":1}"#,
-        r#"{"facts":[0,1,2],"k":"conflict","member":1,"of":1}"#,
-        r#"{"facts":[0],"k":"conflict","member":null,"of":1}"#,
-        // Candidates: a number for a list, another order of keys, a space.
-        r#"{"candidate":0,"causes":[0],"k":"ask","members":[1],"tuple":[0]}"#,
-        r#"{"causes":[[0]],"candidate":0,"k":"ask","members":[1],"tuple":[0]}"#,
-        r#"{"candidate":0,"causes":[[0, 1]],"k":"ask","members":[1],"tuple":[0]}"#,
-        // Tries, learned clauses and ends of tries: words, ranges, a core without a model and a model without one.
-        r#"{"assume":[0],"k":"try","q":"AR"}"#,
-        r#"{"assume":[4294967296],"k":"try","q":"ar"}"#,
-        r#"{"clause":[0],"k":"learn","n":18446744073709551616}"#,
-        r#"{"core":null,"how":"model","k":"done"}"#,
-        r#"{"core":0,"how":"refuted","k":"done"}"#,
-        r#"{"core":0,"how":"spent","k":"done"}"#,
-        r#"{"core":0,"how":"open","k":"done"}"#,
-        r#"{"clauses":0,"k":"forget"}"#,
-    ] {
-        assert_eq!(rt;
-            read(alloc, text.as_bytes()).err(),
-            Some(ReadRefusal::BadLine),
-            "of {text}"
-        );
+    are_no_lines(
+        &rt,
+        alloc,
+        &[
+            // Queries: no atom, `_` or another variable in the head, another atom and move, null alone, an index past 2^32 - 1.
+            r#"{"body":[],"head":[],"k":"cq","move":null,"of":"query","parent":null}"#,
+            r#"{"body":[["c",0,0]],"head":[null],"k":"cq","move":null,"of":"query","parent":null}"#,
+            r#"{"body":[["c",0,0]],"head":[1],"k":"cq","move":null,"of":"query","parent":null}"#,
+            r#"{"body":[["x",0,0]],"head":[],"k":"cq","move":null,"of":"query","parent":null}"#,
+            r#"{"body":[["c",0,0,0]],"head":[],"k":"cq","move":null,"of":"query","parent":null}"#,
+            r#"{"body":[["r",0,0]],"head":[],"k":"cq","move":null,"of":"query","parent":null}"#,
+            r#"{"body":[["c",0,[0,1]]],"head":[],"k":"cq","move":null,"of":"query","parent":null}"#,
+            r#"{"body":[["c",0,0]],"head":[],"k":"cq","move":["rename",0,0],"of":"query","parent":0}"#,
+            r#"{"body":[["c",0,0]],"head":[],"k":"cq","move":["axiom",0,0],"of":"query","parent":null}"#,
+            r#"{"body":[["c",0,0]],"head":[],"k":"cq","move":null,"of":"query","parent":0}"#,
+            r#"{"body":[["c",0,0]],"head":[],"k":"cq","move":null,"of":"axiom","parent":null}"#,
+            r#"{"body":[["c",4294967296,0]],"head":[],"k":"cq","move":null,"of":"query","parent":null}"#,
+            // Conflicts: no fact, three of them, null for a number.
+            r#"{"facts":[],"k":"conflict","member":1,"of":1}"#,
+            r#"{"facts":[0,1,2],"k":"conflict","member":1,"of":1}"#,
+            r#"{"facts":[0],"k":"conflict","member":null,"of":1}"#,
+            // Candidates: a number for a list, another order of keys, a space.
+            r#"{"candidate":0,"causes":[0],"k":"ask","members":[1],"tuple":[0]}"#,
+            r#"{"causes":[[0]],"candidate":0,"k":"ask","members":[1],"tuple":[0]}"#,
+            r#"{"candidate":0,"causes":[[0, 1]],"k":"ask","members":[1],"tuple":[0]}"#,
+            // Tries, learned clauses and ends of tries: words, ranges, a core without a model and a model without one.
+            r#"{"assume":[0],"k":"try","q":"AR"}"#,
+            r#"{"assume":[4294967296],"k":"try","q":"ar"}"#,
+            r#"{"clause":[0],"k":"learn","n":18446744073709551616}"#,
+            r#"{"core":null,"how":"model","k":"done"}"#,
+            r#"{"core":0,"how":"refuted","k":"done"}"#,
+            r#"{"core":0,"how":"spent","k":"done"}"#,
+            r#"{"core":0,"how":"open","k":"done"}"#,
+            r#"{"clauses":0,"k":"forget"}"#,
+        ],
+    );
+}
+
+/// None of the texts is that of a line.
+fn are_no_lines(rt: &impl Abort, alloc: Global, texts: &[&str]) {
+    for text in texts {
+        is_no_line(rt, alloc, text);
     }
-    Ok(())
+}
+
+fn is_no_line(rt: &impl Abort, alloc: Global, text: &str) {
+    let refusal = read(alloc, text.as_bytes()).err();
+    assert_eq!(rt; refusal, Some(ReadRefusal::BadLine), "of {text}");
 }
 
 #[test]
-fn other_texts_are_no_lines(rt: HostRuntime) -> Result<(), Fail> {
+fn other_texts_are_no_lines(rt: HostRuntime) {
     let alloc = rt.alloc();
-    for text in [
-        "",
-        // A line feed, a space, and another order of keys.
-        "{\"answers\":1,\"ar\":0,\"brave\":1,\"iar\":0,\"k\":\"end\",\"undecided\":1}\n",
-        r#"{"answers":1,"ar":0,"brave":1,"iar":0,"k":"end", "undecided":1}"#,
-        r#"{"ar":0,"answers":1,"brave":1,"iar":0,"k":"end","undecided":1}"#,
-        // A key too many, one too few, and one twice.
-        r#"{"answers":1,"ar":0,"brave":1,"iar":0,"k":"end","undecided":1,"x":1}"#,
-        r#"{"answers":1,"ar":0,"brave":1,"k":"end","undecided":1}"#,
-        r#"{"answers":1,"ar":0,"brave":1,"iar":0,"k":"end","undecided":1,"undecided":1}"#,
-        // Numbers: a leading zero, a sign, a fraction, an exponent, a text, and past 2^64 - 1 and 2^32 - 1.
-        r#"{"answers":01,"ar":0,"brave":1,"iar":0,"k":"end","undecided":1}"#,
-        r#"{"answers":-1,"ar":0,"brave":1,"iar":0,"k":"end","undecided":1}"#,
-        r#"{"answers":1.0,"ar":0,"brave":1,"iar":0,"k":"end","undecided":1}"#,
-        r#"{"answers":1e3,"ar":0,"brave":1,"iar":0,"k":"end","undecided":1}"#,
-        r#"{"answers":"1","ar":0,"brave":1,"iar":0,"k":"end","undecided":1}"#,
-        r#"{"answers":18446744073709551616,"ar":0,"brave":1,"iar":0,"k":"end","undecided":1}"#,
-        r#"{"dropped":[1],"k":"core","kept":[4294967296],"n":0}"#,
-        r#"{"clause":[00],"k":"learn","n":0}"#,
-        r#"{"core":01,"how":"model","k":"done"}"#,
-        // Words: an unknown version, repairs, verdict and kind, escapes that aren't needed or have other digits, and half a character.
-        r#"{"axioms":2,"budget":0,"facts":2,"k":"head","keep":0,"repairs":"all","version":2}"#,
-        r#"{"axioms":2,"budget":0,"facts":2,"k":"head","keep":0,"repairs":"some","version":0}"#,
-        r#"{"ar":"maybe","brave":"yes","cores":[0],"iar":"no","k":"answer","names":["ann"],"tuple":[0]}"#,
-        r#"{"dropped":[1],"k":"kernel","kept":[0],"n":0}"#,
-        r#"{"ar":"no","brave":"yes","cores":[0],"iar":"no","k":"answer","names":["\u0061nn"],"tuple":[0]}"#,
-        r#"{"ar":"no","brave":"yes","cores":[0],"iar":"no","k":"answer","names":["\/"],"tuple":[0]}"#,
-        r#"{"ar":"no","brave":"yes","cores":[0],"iar":"no","k":"answer","names":["\u001F"],"tuple":[0]}"#,
-        r#"{"ar":"no","brave":"yes","cores":[0],"iar":"no","k":"answer","names":["\u0008"],"tuple":[0]}"#,
-        r#"{"ar":"no","brave":"yes","cores":[0],"iar":"no","k":"answer","names":["\ud834\udd1e"],"tuple":[0]}"#,
-        r#"{"ar":"no","brave":"yes","cores":[0],"iar":"no","k":"answer","names":["\ud834"],"tuple":[0]}"#,
-    ] {
-        assert_eq!(rt;
-            read(alloc, text.as_bytes()).err(),
-            Some(ReadRefusal::BadLine),
-            "of {text}"
-        );
-    }
+    are_no_lines(
+        &rt,
+        alloc,
+        &[
+            "",
+            // A line feed, a space, and another order of keys.
+            "{\"answers\":1,\"ar\":0,\"brave\":1,\"iar\":0,\"k\":\"end\",\"undecided\":1}\n",
+            r#"{"answers":1,"ar":0,"brave":1,"iar":0,"k":"end", "undecided":1}"#,
+            r#"{"ar":0,"answers":1,"brave":1,"iar":0,"k":"end","undecided":1}"#,
+            // A key too many, one too few, and one twice.
+            r#"{"answers":1,"ar":0,"brave":1,"iar":0,"k":"end","undecided":1,"x":1}"#,
+            r#"{"answers":1,"ar":0,"brave":1,"k":"end","undecided":1}"#,
+            r#"{"answers":1,"ar":0,"brave":1,"iar":0,"k":"end","undecided":1,"undecided":1}"#,
+            // Numbers: a leading zero, a sign, a fraction, an exponent, a text, and past 2^64 - 1 and 2^32 - 1.
+            r#"{"answers":01,"ar":0,"brave":1,"iar":0,"k":"end","undecided":1}"#,
+            r#"{"answers":-1,"ar":0,"brave":1,"iar":0,"k":"end","undecided":1}"#,
+            r#"{"answers":1.0,"ar":0,"brave":1,"iar":0,"k":"end","undecided":1}"#,
+            r#"{"answers":1e3,"ar":0,"brave":1,"iar":0,"k":"end","undecided":1}"#,
+            r#"{"answers":"1","ar":0,"brave":1,"iar":0,"k":"end","undecided":1}"#,
+            r#"{"answers":18446744073709551616,"ar":0,"brave":1,"iar":0,"k":"end","undecided":1}"#,
+            r#"{"dropped":[1],"k":"core","kept":[4294967296],"n":0}"#,
+            r#"{"clause":[00],"k":"learn","n":0}"#,
+            r#"{"core":01,"how":"model","k":"done"}"#,
+            // Words: an unknown version, repairs, verdict and kind, escapes that aren't needed or have other digits, and half a character.
+            r#"{"axioms":2,"budget":0,"facts":2,"k":"head","keep":0,"repairs":"all","version":2}"#,
+            r#"{"axioms":2,"budget":0,"facts":2,"k":"head","keep":0,"repairs":"some","version":0}"#,
+            r#"{"ar":"maybe","brave":"yes","cores":[0],"iar":"no","k":"answer","names":["ann"],"tuple":[0]}"#,
+            r#"{"dropped":[1],"k":"kernel","kept":[0],"n":0}"#,
+            r#"{"ar":"no","brave":"yes","cores":[0],"iar":"no","k":"answer","names":["\u0061nn"],"tuple":[0]}"#,
+            r#"{"ar":"no","brave":"yes","cores":[0],"iar":"no","k":"answer","names":["\/"],"tuple":[0]}"#,
+            r#"{"ar":"no","brave":"yes","cores":[0],"iar":"no","k":"answer","names":["\u001F"],"tuple":[0]}"#,
+            r#"{"ar":"no","brave":"yes","cores":[0],"iar":"no","k":"answer","names":["\u0008"],"tuple":[0]}"#,
+            r#"{"ar":"no","brave":"yes","cores":[0],"iar":"no","k":"answer","names":["\ud834\udd1e"],"tuple":[0]}"#,
+            r#"{"ar":"no","brave":"yes","cores":[0],"iar":"no","k":"answer","names":["\ud834"],"tuple":[0]}"#,
+        ],
+    );
+}
+
+#[test]
+fn bytes_that_are_no_text_are_no_line(rt: HostRuntime) {
     let not_utf8 = b"{\"dropped\":[],\"k\":\"\xff\",\"kept\":[],\"n\":0}";
-    assert_eq!(rt; read(alloc, not_utf8).err(), Some(ReadRefusal::BadLine));
+    let refusal = read(rt.alloc(), not_utf8).err();
+    assert_eq!(rt; refusal, Some(ReadRefusal::BadLine));
+}
+
+#[test]
+fn a_deep_nest_is_no_line(rt: HostRuntime) -> Result<(), Fail> {
+    let alloc = rt.alloc();
     let mut nest = Vec::new(alloc);
     for _ in 0..100_000 {
         nest.push(b'[')?;

@@ -40,7 +40,6 @@ fn below(left: Basic, right: Basic) -> Axiom {
 /// first.
 #[derive(Clone, Copy)]
 struct Row<'a> {
-    shows: &'a str,
     head: &'a [Term],
     body: &'a [QAtom],
     axioms: &'a [Axiom],
@@ -69,26 +68,17 @@ fn has_members(rt: &impl Abort, closure: &Closure, row: &Row<'_>) {
     let mut from = 0;
     for member in closure.members() {
         if at > 0 {
-            assert!(rt; at <= row.steps.len(), "where {}", row.shows);
-            assert_eq!(rt; member.step, Some(row.steps[at - 1]), "where {}", row.shows);
+            assert!(rt; at <= row.steps.len());
+            assert_eq!(rt; member.step, Some(row.steps[at - 1]));
         }
         at += 1;
         let end = member.query.body().len().saturating_add(from);
-        assert!(rt;
-            from <= end && end <= row.bodies.len(),
-            "where {}",
-            row.shows
-        );
-        assert_eq!(rt;
-            member.query.body(),
-            &row.bodies[from..end],
-            "where {}",
-            row.shows
-        );
+        assert!(rt; from <= end && end <= row.bodies.len());
+        assert_eq!(rt; member.query.body(), &row.bodies[from..end]);
         from = end;
     }
-    assert_eq!(rt; at, row.members as usize, "where {}", row.shows);
-    assert_eq!(rt; from, row.bodies.len(), "where {}", row.shows);
+    assert_eq!(rt; at, row.members as usize);
+    assert_eq!(rt; from, row.bodies.len());
 }
 
 /// The closure is the row's with room for its members, and is refused with room for one less.
@@ -99,88 +89,103 @@ fn holds(rt: &impl Abort, alloc: Global, row: &Row<'_>) -> Result<(), CloseRefus
     let closure = close(alloc, &given, row.axioms, row.members)?;
     has_members(rt, &closure, row);
     let refused = close(alloc, &given, row.axioms, row.members.saturating_sub(1)).err();
-    assert_eq!(rt;
-        refused,
-        Some(CloseRefusal::TooManyCqs),
-        "where {}",
-        row.shows
-    );
+    assert_eq!(rt; refused, Some(CloseRefusal::TooManyCqs));
     Ok(())
 }
 
 #[test]
-fn closures_are_those_worked_by_hand(rt: HostRuntime) -> Result<(), Fail> {
-    let rows = [
-        Row {
-            shows: "only a reduce step frees the variable",
-            head: &[X],
-            body: &[link(X, Y), link(Z, Y)],
-            axioms: &[below(Basic::Concept(0), some(false))],
-            members: 3,
-            bodies: &[link(X, Y), link(ANY, Y), link(X, ANY), name(0, X)],
-            steps: &[reduce(0), axiom(1, 0, 0)],
-        },
-        Row {
-            shows: "three names are below one",
-            head: &[X],
-            body: &[name(0, X)],
-            axioms: &[
-                below(Basic::Concept(1), Basic::Concept(0)),
-                below(Basic::Concept(2), Basic::Concept(0)),
-                below(Basic::Concept(3), Basic::Concept(0)),
-            ],
-            members: 4,
-            bodies: &[name(0, X), name(1, X), name(2, X), name(3, X)],
-            steps: &[axiom(0, 0, 0), axiom(0, 0, 1), axiom(0, 0, 2)],
-        },
-        Row {
-            shows: "a query further off comes after all nearer ones",
-            head: &[X],
-            body: &[name(0, X)],
-            axioms: &[
-                below(Basic::Concept(2), Basic::Concept(1)),
-                below(Basic::Concept(1), Basic::Concept(0)),
-                below(Basic::Concept(3), Basic::Concept(0)),
-                below(Basic::Concept(3), Basic::Concept(2)),
-            ],
-            members: 4,
-            bodies: &[name(0, X), name(1, X), name(3, X), name(2, X)],
-            steps: &[axiom(0, 0, 1), axiom(0, 0, 2), axiom(1, 0, 0)],
-        },
-        Row {
-            shows: "two links become one",
-            head: &[],
-            body: &[link(X, A), link(B, Y)],
-            axioms: &[],
-            members: 2,
-            bodies: &[link(B, ANY), link(ANY, A), link(B, A)],
-            steps: &[reduce(0)],
-        },
-        Row {
-            shows: "a cycle through a role ends",
-            head: &[],
-            body: &[name(0, X)],
-            axioms: &[
-                below(Basic::Concept(0), some(false)),
-                below(some(true), Basic::Concept(0)),
-            ],
-            members: 2,
-            bodies: &[name(0, ANY), link(ANY, ANY)],
-            steps: &[axiom(0, 0, 1)],
-        },
-        Row {
-            shows: "no move applies",
-            head: &[X],
-            body: &[name(1, X)],
-            axioms: &[below(Basic::Concept(1), Basic::Concept(0))],
-            members: 1,
-            bodies: &[name(1, X)],
-            steps: &[],
-        },
-    ];
-    for row in &rows {
-        holds(&rt, rt.alloc(), row)?;
-    }
+fn only_a_reduce_step_frees_the_variable(rt: HostRuntime) -> Result<(), Fail> {
+    let row = Row {
+        head: &[X],
+        body: &[link(X, Y), link(Z, Y)],
+        axioms: &[below(Basic::Concept(0), some(false))],
+        members: 3,
+        bodies: &[link(X, Y), link(ANY, Y), link(X, ANY), name(0, X)],
+        steps: &[reduce(0), axiom(1, 0, 0)],
+    };
+    holds(&rt, rt.alloc(), &row)?;
+    Ok(())
+}
+
+#[test]
+fn three_names_are_below_one(rt: HostRuntime) -> Result<(), Fail> {
+    let row = Row {
+        head: &[X],
+        body: &[name(0, X)],
+        axioms: &[
+            below(Basic::Concept(1), Basic::Concept(0)),
+            below(Basic::Concept(2), Basic::Concept(0)),
+            below(Basic::Concept(3), Basic::Concept(0)),
+        ],
+        members: 4,
+        bodies: &[name(0, X), name(1, X), name(2, X), name(3, X)],
+        steps: &[axiom(0, 0, 0), axiom(0, 0, 1), axiom(0, 0, 2)],
+    };
+    holds(&rt, rt.alloc(), &row)?;
+    Ok(())
+}
+
+#[test]
+fn a_query_further_off_comes_after_all_nearer_ones(rt: HostRuntime) -> Result<(), Fail> {
+    let row = Row {
+        head: &[X],
+        body: &[name(0, X)],
+        axioms: &[
+            below(Basic::Concept(2), Basic::Concept(1)),
+            below(Basic::Concept(1), Basic::Concept(0)),
+            below(Basic::Concept(3), Basic::Concept(0)),
+            below(Basic::Concept(3), Basic::Concept(2)),
+        ],
+        members: 4,
+        bodies: &[name(0, X), name(1, X), name(3, X), name(2, X)],
+        steps: &[axiom(0, 0, 1), axiom(0, 0, 2), axiom(1, 0, 0)],
+    };
+    holds(&rt, rt.alloc(), &row)?;
+    Ok(())
+}
+
+#[test]
+fn two_links_become_one(rt: HostRuntime) -> Result<(), Fail> {
+    let row = Row {
+        head: &[],
+        body: &[link(X, A), link(B, Y)],
+        axioms: &[],
+        members: 2,
+        bodies: &[link(B, ANY), link(ANY, A), link(B, A)],
+        steps: &[reduce(0)],
+    };
+    holds(&rt, rt.alloc(), &row)?;
+    Ok(())
+}
+
+#[test]
+fn a_cycle_through_a_role_ends(rt: HostRuntime) -> Result<(), Fail> {
+    let row = Row {
+        head: &[],
+        body: &[name(0, X)],
+        axioms: &[
+            below(Basic::Concept(0), some(false)),
+            below(some(true), Basic::Concept(0)),
+        ],
+        members: 2,
+        bodies: &[name(0, ANY), link(ANY, ANY)],
+        steps: &[axiom(0, 0, 1)],
+    };
+    holds(&rt, rt.alloc(), &row)?;
+    Ok(())
+}
+
+#[test]
+fn no_move_applies(rt: HostRuntime) -> Result<(), Fail> {
+    let row = Row {
+        head: &[X],
+        body: &[name(1, X)],
+        axioms: &[below(Basic::Concept(1), Basic::Concept(0))],
+        members: 1,
+        bodies: &[name(1, X)],
+        steps: &[],
+    };
+    holds(&rt, rt.alloc(), &row)?;
     Ok(())
 }
 
@@ -201,7 +206,6 @@ fn the_closure_of_a_disjointness_is_worked_by_hand(rt: HostRuntime) -> Result<()
     assert!(rt; forbidden.body().len() < 12);
     let closure = close(alloc, &forbidden, &axioms, 3)?;
     let row = Row {
-        shows: "what is forbidden follows from one fact",
         head: &[],
         body: &[],
         axioms: &axioms,
@@ -228,7 +232,6 @@ fn has_heads(rt: &impl Abort, closure: &Closure, heads: &[&[Term]]) {
 fn a_reduce_step_makes_two_variables_of_the_head_one(rt: HostRuntime) -> Result<(), Fail> {
     let alloc = rt.alloc();
     let row = Row {
-        shows: "two variables of the head become one",
         head: &[X, Z],
         body: &[link(X, Y), link(Z, Y)],
         axioms: &[below(Basic::Concept(0), some(false))],

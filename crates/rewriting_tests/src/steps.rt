@@ -65,7 +65,6 @@ fn role_axiom(left_inverse: bool, right_inverse: bool) -> Axiom {
 /// the other, and the one head that they have.
 #[derive(Clone, Copy)]
 struct Row<'a> {
-    shows: &'a str,
     head: &'a [Term],
     body: &'a [QAtom],
     axioms: &'a [Axiom],
@@ -83,16 +82,16 @@ fn has_moves(rt: &impl Abort, alloc: Global, query: &Cq, row: &Row<'_>) -> Resul
     let mut from = 0;
     for (step, next) in &successors(alloc, query, row.axioms)? {
         assert!(rt; at < row.moves.len());
-        assert_eq!(rt; *step, row.moves[at], "where {}", row.shows);
+        assert_eq!(rt; *step, row.moves[at]);
         at += 1;
         let end = next.body().len().saturating_add(from);
         assert!(rt; from <= end && end <= row.results.len());
-        assert_eq!(rt; next.head(), row.heads, "where {}", row.shows);
-        assert_eq!(rt; next.body(), &row.results[from..end], "where {}", row.shows);
+        assert_eq!(rt; next.head(), row.heads);
+        assert_eq!(rt; next.body(), &row.results[from..end]);
         from = end;
     }
-    assert_eq!(rt; at, row.moves.len(), "where {}", row.shows);
-    assert_eq!(rt; from, row.results.len(), "where {}", row.shows);
+    assert_eq!(rt; at, row.moves.len());
+    assert_eq!(rt; from, row.results.len());
     Ok(())
 }
 
@@ -100,112 +99,121 @@ fn has_moves(rt: &impl Abort, alloc: Global, query: &Cq, row: &Row<'_>) -> Resul
 fn holds(rt: &impl Abort, alloc: Global, row: &Row<'_>) -> Result<(), NoMemory> {
     let given = query(rt, alloc, row.head, row.body)?;
     let settled = normal(alloc, &given)?;
-    assert_eq!(rt; settled.body(), row.settled, "where {}", row.shows);
+    assert_eq!(rt; settled.body(), row.settled);
     has_moves(rt, alloc, &settled, row)
 }
 
 #[test]
-fn reduce_steps_are_those_worked_by_hand(rt: HostRuntime) -> Result<(), Fail> {
-    let rows = [
-        Row {
-            shows: "both places are unified",
-            head: &[],
-            body: &[link(0, X, A), link(0, B, Y)],
-            axioms: &[],
-            settled: &[link(0, B, ANY), link(0, ANY, A)],
-            moves: &[Move::Reduce {
-                first: 0,
-                second: 1,
-            }],
-            results: &[link(0, B, A)],
-            heads: &[],
-        },
-        Row {
-            shows: "a blank gives way to a variable and to a blank",
-            head: &[],
-            body: &[link(0, X, Y), name(0, X), link(0, Z, W)],
-            axioms: &[],
-            settled: &[name(0, X), link(0, X, ANY), link(0, ANY, ANY)],
-            moves: &[Move::Reduce {
-                first: 1,
-                second: 2,
-            }],
-            results: &[name(0, X), link(0, X, ANY)],
-            heads: &[],
-        },
-        Row {
-            shows: "different individuals have no unifier",
-            head: &[],
-            body: &[name(0, B), name(0, A)],
-            axioms: &[],
-            settled: &[name(0, A), name(0, B)],
-            moves: &[],
-            results: &[],
-            heads: &[],
-        },
-    ];
-    for row in &rows {
-        holds(&rt, rt.alloc(), row)?;
-    }
+fn both_places_are_unified(rt: HostRuntime) -> Result<(), Fail> {
+    let row = Row {
+        head: &[],
+        body: &[link(0, X, A), link(0, B, Y)],
+        axioms: &[],
+        settled: &[link(0, B, ANY), link(0, ANY, A)],
+        moves: &[Move::Reduce {
+            first: 0,
+            second: 1,
+        }],
+        results: &[link(0, B, A)],
+        heads: &[],
+    };
+    holds(&rt, rt.alloc(), &row)?;
     Ok(())
 }
 
 #[test]
-fn a_reduce_step_may_free_a_variable(rt: HostRuntime) -> Result<(), Fail> {
-    let rows = [
-        Row {
-            shows: "a variable of the head becomes an individual",
-            head: &[X],
-            body: &[name(0, A), name(0, X)],
-            axioms: &[],
-            settled: &[name(0, X), name(0, A)],
-            moves: &[Move::Reduce {
-                first: 0,
-                second: 1,
-            }],
-            results: &[name(0, A)],
-            heads: &[A],
-        },
-        Row {
-            shows: "a variable joins nothing once its atoms are one",
-            head: &[X],
-            body: &[link(0, X, Y), link(0, Z, Y)],
-            axioms: &[Axiom::Sub {
-                left: Basic::Concept(0),
-                right: some(0),
-            }],
-            settled: &[link(0, X, Y), link(0, ANY, Y)],
-            moves: &[Move::Reduce {
-                first: 0,
-                second: 1,
-            }],
-            results: &[link(0, X, ANY)],
-            heads: &[X],
-        },
-        Row {
-            shows: "equal atoms are one before variables are counted",
-            head: &[],
-            body: &[link(0, X, Y), link(0, Z, Y)],
-            axioms: &[Axiom::Sub {
-                left: Basic::Concept(0),
-                right: some(0),
-            }],
-            settled: &[link(0, ANY, ANY)],
-            moves: &[Move::Axiom { atom: 0, axiom: 0 }],
-            results: &[name(0, ANY)],
-            heads: &[],
-        },
-    ];
-    for row in &rows {
-        holds(&rt, rt.alloc(), row)?;
-    }
+fn a_blank_gives_way_to_a_variable_and_to_a_blank(rt: HostRuntime) -> Result<(), Fail> {
+    let row = Row {
+        head: &[],
+        body: &[link(0, X, Y), name(0, X), link(0, Z, W)],
+        axioms: &[],
+        settled: &[name(0, X), link(0, X, ANY), link(0, ANY, ANY)],
+        moves: &[Move::Reduce {
+            first: 1,
+            second: 2,
+        }],
+        results: &[name(0, X), link(0, X, ANY)],
+        heads: &[],
+    };
+    holds(&rt, rt.alloc(), &row)?;
+    Ok(())
+}
+
+#[test]
+fn different_individuals_have_no_unifier(rt: HostRuntime) -> Result<(), Fail> {
+    let row = Row {
+        head: &[],
+        body: &[name(0, B), name(0, A)],
+        axioms: &[],
+        settled: &[name(0, A), name(0, B)],
+        moves: &[],
+        results: &[],
+        heads: &[],
+    };
+    holds(&rt, rt.alloc(), &row)?;
+    Ok(())
+}
+
+#[test]
+fn a_variable_of_the_head_becomes_an_individual(rt: HostRuntime) -> Result<(), Fail> {
+    let row = Row {
+        head: &[X],
+        body: &[name(0, A), name(0, X)],
+        axioms: &[],
+        settled: &[name(0, X), name(0, A)],
+        moves: &[Move::Reduce {
+            first: 0,
+            second: 1,
+        }],
+        results: &[name(0, A)],
+        heads: &[A],
+    };
+    holds(&rt, rt.alloc(), &row)?;
+    Ok(())
+}
+
+#[test]
+fn a_variable_joins_nothing_once_its_atoms_are_one(rt: HostRuntime) -> Result<(), Fail> {
+    let row = Row {
+        head: &[X],
+        body: &[link(0, X, Y), link(0, Z, Y)],
+        axioms: &[Axiom::Sub {
+            left: Basic::Concept(0),
+            right: some(0),
+        }],
+        settled: &[link(0, X, Y), link(0, ANY, Y)],
+        moves: &[Move::Reduce {
+            first: 0,
+            second: 1,
+        }],
+        results: &[link(0, X, ANY)],
+        heads: &[X],
+    };
+    holds(&rt, rt.alloc(), &row)?;
+    Ok(())
+}
+
+#[test]
+fn equal_atoms_are_one_before_variables_are_counted(rt: HostRuntime) -> Result<(), Fail> {
+    let row = Row {
+        head: &[],
+        body: &[link(0, X, Y), link(0, Z, Y)],
+        axioms: &[Axiom::Sub {
+            left: Basic::Concept(0),
+            right: some(0),
+        }],
+        settled: &[link(0, ANY, ANY)],
+        moves: &[Move::Axiom { atom: 0, axiom: 0 }],
+        results: &[name(0, ANY)],
+        heads: &[],
+    };
+    holds(&rt, rt.alloc(), &row)?;
     Ok(())
 }
 
 #[test]
 fn inverse_roles_exchange_the_places(rt: HostRuntime) -> Result<(), Fail> {
     let row = Row {
-        shows: "one side is an inverse and the other isn't",
         head: &[X, Y],
         body: &[link(0, X, Y)],
         axioms: &[
@@ -252,7 +260,6 @@ fn the_query_of_a_disjointness_is_rewritten(rt: HostRuntime) -> Result<(), Fail>
     };
     assert_eq!(rt; first.body(), [name(1, X), link(0, ANY, X)].as_slice());
     let row = Row {
-        shows: "what is forbidden follows from a link",
         head: &[],
         body: &[],
         axioms: &axioms,

@@ -2,17 +2,19 @@
 use Rattle.std.proofs.Common.{◌≡◌, ◌<◌, ◌+◌, ℕ, zero, suc, ◌≤◌, List, [], ◌∷◌, inl, inr, All, Contains, None, Bool, true, false, get_or, refl, sym, subst, ap}
 use Rattle.std.proofs.Common.{◌∙◌, arith}
 use Rattle.std.proofs.lemmas.List.Elements.{All-cons, All-nil, All-contains, Contains-get_or, Contains-push_cases}
+use Rattle.std.proofs.lemmas.List.Kept.{AllPairs-cons}
 use Rattle.std.proofs.lemmas.List.Sorted.{IsPermutation-sym, Contains-permutation}
 use Rattle.clause_meaning.specs.Literals.{variable_of, AreBelow}
 use Rattle.clause_meaning.specs.Assignments.{IsInside}
 use Rattle.clause_meaning.specs.Learning.{is_in, IsOneSided}
+use Rattle.cq_terms.specs.Lists.{IsAscending}
 use Rattle.clause_meaning.proofs.Members.{Contains-cons_cases, Contains-nil}
 use Rattle.cdcl_core.specs.declared.outcome.Budget.{Budget}
-use Rattle.cdcl_core.specs.State.{State, LiveClause, AscendsAs, AddsClause}
+use Rattle.cdcl_core.specs.State.{State, LiveClause, AscendsAs, AddsClause, empty_solver}
 use Rattle.cdcl_core.specs.Logs.{Learned}
 use Rattle.cdcl_core.specs.Learning.{AreLearned, with_learned, with_all}
-use Rattle.cdcl_core.specs.Solving.{Learns, cleared}
-use Rattle.cdcl_core.specs.Trials.{IsSmall, IsParted}
+use Rattle.cdcl_core.specs.Solving.{Learns, AreAskable, cleared}
+use Rattle.cdcl_core.specs.Trials.{IsSmall, IsFresh, IsParted}
 use Rattle.cdcl_core.proofs.Seeks.{contains_in}
 use Rattle.cdcl_core.proofs.Runs.{live_cases, next_after}
 
@@ -64,6 +66,100 @@ in_first : (v : ℕ) → v < 2 → is_in (0 ∷ 1 ∷ []) v ≡ true
 in_first zero below = refl
 in_first (suc zero) below = refl
 in_first (suc (suc v)) below = absurd (omega arith)
+
+-- a new solver
+pub fresh_new : (n : ℕ) (s : State) → s ≡ empty_solver n → IsFresh n s
+fresh_new n s is = subst (IsFresh n) (sym is) (record {
+  small = record { variables = refl; below = λ c (k, x, p, same, e). absurd (omega (arith, p)) };
+  next = refl;
+})
+
+-- one more clause over the variables
+pub fresh_more : (n : ℕ) (old new : State) (clause : List ℕ) → IsFresh n old → AreBelow n clause → AddsClause old new clause → IsFresh n new
+fresh_more n old new clause fresh below (shown, up, is) = subst (IsFresh n) (sym is) (record {
+  small = record {
+    variables = fresh.small.variables;
+    below = λ c (k, x, p, same, e). elim (Contains-push_cases old.live entry x (k, p, same)) [
+      | inl m ↦ fresh.small.below c (m.0, x, m.1, m.2, e)
+      | inr d ↦ subst (AreBelow n) (ap (λ (y : LiveClause). y.literals) d ∙ e) shown_below
+    ];
+  };
+  next = fresh.next;
+})
+  where
+    entry : LiveClause
+    entry = record { number = None; literals = shown }
+
+    shown_below : AreBelow n shown
+    shown_below = λ k d p. All-contains (λ (l : ℕ). variable_of l < n) clause (get_or shown k d) below
+        (Contains-permutation shown clause (get_or shown k d) (IsPermutation-sym clause shown up.permutation) (Contains-get_or shown k d p))
+
+-- ---- a search over both of two variables
+
+two_small : All (λ (v : ℕ). v < 2) (0 ∷ 1 ∷ [])
+two_small = let Small : ℕ → Type 0 = λ v. v < 2 in All-cons Small 0 (1 ∷ []) (omega arith) (All-cons Small 1 [] (omega arith) (All-nil Small))
+
+abbrev Less : ℕ → ℕ → Type 0
+Less i j = i < j
+
+two_ascend : IsAscending (0 ∷ 1 ∷ [])
+two_ascend =
+    AllPairs-cons Less 0 (1 ∷ []) (All-cons (Less 0) 1 [] (omega arith) (All-nil (Less 0)))
+    (AllPairs-cons Less 1 [] (All-nil (Less 1)) (λ i j d h p. absurd (omega arith)))
+
+in_both : (clause : List ℕ) → AreBelow 2 clause → IsInside (is_in (0 ∷ 1 ∷ [])) clause
+in_both clause below = λ l m. in_first (variable_of l) (All-contains (λ (x : ℕ). variable_of x < 2) clause l below m)
+
+pub both_askable : (s : State) (assume : List ℕ) → IsFresh 2 s → AreBelow 2 assume → AreAskable s (0 ∷ 1 ∷ []) assume
+both_askable s assume fresh below = record {
+  ascending = two_ascend;
+  in_range = subst (λ (n : ℕ). All (λ (v : ℕ). v < n) (0 ∷ 1 ∷ [])) (sym fresh.small.variables) two_small;
+  assumed = in_both assume below;
+  separates = λ clause live. inl (in_both clause (fresh.small.below clause live));
+}
+
+-- without budget nothing is learned
+pub fresh_learned : (old new : State) (assume : List ℕ) (was now : Budget) (entries : List Learned) → IsFresh 2 old → was.used ≡ 0 → was.limit ≡ 0
+    → Learns (cleared old) (cleared new) (0 ∷ 1 ∷ []) assume was now entries → IsFresh 2 new
+fresh_learned old new assume was now entries fresh used none learns = record {
+  small = small_learned 2 old new (0 ∷ 1 ∷ []) assume was now entries two_small fresh.small learns;
+  next =
+      (let next = next_learned old new (0 ∷ 1 ∷ []) assume was now entries learns in
+      let limit = learns.limit in
+      let within = learns.within in
+      let begins = fresh.next in
+      omega (arith, next, limit, within, begins, used, none));
+}
+
+-- ---- a search over four variables
+
+four_ascend : IsAscending (0 ∷ 1 ∷ 2 ∷ 3 ∷ [])
+four_ascend =
+    let last : IsAscending (2 ∷ 3 ∷ []) = AllPairs-cons Less 2 (3 ∷ []) (All-cons (Less 2) 3 [] (omega arith) (All-nil (Less 2)))
+    (AllPairs-cons Less 3 [] (All-nil (Less 3)) (λ i j d h p. absurd (omega arith))) in
+    AllPairs-cons Less 0 (1 ∷ 2 ∷ 3 ∷ [])
+    (All-cons (Less 0) 1 (2 ∷ 3 ∷ []) (omega arith) (All-cons (Less 0) 2 (3 ∷ []) (omega arith) (All-cons (Less 0) 3 [] (omega arith) (All-nil (Less 0)))))
+    (AllPairs-cons Less 1 (2 ∷ 3 ∷ []) (All-cons (Less 1) 2 (3 ∷ []) (omega arith) (All-cons (Less 1) 3 [] (omega arith) (All-nil (Less 1)))) last)
+
+in_four : (v : ℕ) → v < 4 → is_in (0 ∷ 1 ∷ 2 ∷ 3 ∷ []) v ≡ true
+in_four zero below = refl
+in_four (suc zero) below = refl
+in_four (suc (suc zero)) below = refl
+in_four (suc (suc (suc zero))) below = refl
+in_four (suc (suc (suc (suc v)))) below = absurd (omega arith)
+
+in_all : (clause : List ℕ) → AreBelow 4 clause → IsInside (is_in (0 ∷ 1 ∷ 2 ∷ 3 ∷ [])) clause
+in_all clause below = λ l m. in_four (variable_of l) (All-contains (λ (x : ℕ). variable_of x < 4) clause l below m)
+
+pub all_askable : (s : State) (assume : List ℕ) → IsSmall 4 s → AreBelow 4 assume → AreAskable s (0 ∷ 1 ∷ 2 ∷ 3 ∷ []) assume
+all_askable s assume small below = record {
+  ascending = four_ascend;
+  in_range = subst (λ (n : ℕ). All (λ (v : ℕ). v < n) (0 ∷ 1 ∷ 2 ∷ 3 ∷ [])) (sym small.variables) four_small;
+  assumed = in_all assume below;
+  separates = λ clause live. inl (in_all clause (small.below clause live));
+}
+
+-- ---- the border
 
 -- what holds of two literals holds of each of their list
 each_of_two : (P : ℕ → Type 0) (k l : ℕ) → P k → P l → (x : ℕ) → Contains (k ∷ l ∷ []) x → P x

@@ -1,6 +1,6 @@
 //! A small unsatisfiable set of clauses, worked by hand, and random ones beside propagation by passes.
 
-ghost use Rattle.std.specs.Prelude.{◌≡◌, ◌<◌, ◌≤◌, ◌^◌, ◌+◌, ℕ, OnOk};
+ghost use Rattle.std.specs.Prelude.{◌≡◌, ◌<◌, ◌≤◌, ◌^◌, ◌+◌, ℕ, IfOk, OnOk};
 ghost use Rattle.rup_check.specs.State.{IsLive, with_clause};
 
 use clause_meaning::{are_below, opposite};
@@ -37,14 +37,23 @@ fn refutes(rt: &impl Abort, checker: &mut Checker, variables: u32, assume: &[u32
     checker.refutes(assume)
 }
 
+/// A checker over two variables with the four clauses of both.
+fn four(rt: &impl Abort, alloc: Global) -> Result<Checker, Fail>
+    ensures variables { IfOk result (λ checker. checker.variables ≡ 2) }
+    ensures next { IfOk result (λ checker. checker.next ≡ 4) }
+{
+    let mut checker = Checker::new(alloc, 2)?;
+    put(rt, &mut checker, 2, &[0, 2], 0)?;
+    put(rt, &mut checker, 2, &[0, 3], 1)?;
+    put(rt, &mut checker, 2, &[1, 2], 2)?;
+    put(rt, &mut checker, 2, &[1, 3], 3)?;
+    Ok(checker)
+}
+
 /// Both variables in each of the four ways. No clause has one literal, so propagation begins only at an assumption.
 #[test]
 fn four_clauses_need_one_more(rt: HostRuntime) -> Result<(), Fail> {
-    let mut checker = Checker::new(rt.alloc(), 2)?;
-    put(&rt, &mut checker, 2, &[0, 2], 0)?;
-    put(&rt, &mut checker, 2, &[0, 3], 1)?;
-    put(&rt, &mut checker, 2, &[1, 2], 2)?;
-    put(&rt, &mut checker, 2, &[1, 3], 3)?;
+    let mut checker = four(&rt, rt.alloc())?;
     assert!(rt; !refutes(&rt, &mut checker, 2, &[]));
     assert!(rt; refutes(&rt, &mut checker, 2, &[0]));
     assert!(rt; checker.is_superset_of_live(&[0, 2]));

@@ -1,6 +1,6 @@
 //! Falsified clauses over three variables, worked by hand.
 
-ghost use Rattle.std.specs.Prelude.{◌≡◌, ◌≢◌, ◌<◌, OnOk, IfSome, IfNone, true};
+ghost use Rattle.std.specs.Prelude.{◌≡◌, ◌≢◌, ◌<◌, OnOk, IfOk, IfSome, IfNone, true};
 ghost use Rattle.clause_meaning.specs.Literals as lits;
 ghost use Rattle.cdcl_trail.specs.Assigned.{IsUnassigned};
 ghost use Rattle.cdcl_trail.specs.State.{empty_trail};
@@ -133,57 +133,129 @@ fn learn(
     }
 }
 
+/// An arena of three variables with no clause.
+fn no_clause(alloc: Global) -> Result<Arena, NoMemory>
+    ensures { IfOk result (λ arena. AreLong arena) }
+{
+    let arena = Arena::new(alloc, 3)?;
+    Ok(arena)
+}
+
+/// Variables 0 and 1 in each of the four ways.
+fn both_ways(rt: &impl Abort, alloc: Global) -> Result<Arena, Fail>
+    ensures { IfOk result (λ arena. AreLong arena) }
+{
+    let mut arena = no_clause(alloc)?;
+    put_two(rt, &mut arena, 0, 2)?;
+    put_two(rt, &mut arena, 0, 3)?;
+    put_two(rt, &mut arena, 1, 2)?;
+    put_two(rt, &mut arena, 1, 3)?;
+    Ok(arena)
+}
+
+/// Where variables 0 and 1 are present, variable 2 has both values.
+fn a_fork(rt: &impl Abort, alloc: Global) -> Result<Arena, Fail>
+    ensures { IfOk result (λ arena. AreLong arena) }
+{
+    let mut arena = no_clause(alloc)?;
+    put_three(rt, &mut arena, 1, 3, 4)?;
+    put_three(rt, &mut arena, 1, 3, 5)?;
+    Ok(arena)
+}
+
+/// Marks for three variables.
+fn marks_of_three(alloc: Global) -> Result<Marks, NoMemory>
+    ensures { IfOk result (λ marks. marks ≡ 3) }
+{
+    let marks = Marks::new(alloc, 3)?;
+    Ok(marks)
+}
+
+/// A trail that has begun.
+fn begun(rt: &impl Abort, alloc: Global, arena: &Arena) -> Result<Trail, Fail>
+    requires { AreLong arena.now }
+    ensures { IfOk result (λ trail. IsReady trail arena.now) }
+{
+    let mut trail = Trail::new(alloc, 3)?;
+    assert!(rt; begin(&mut trail, arena));
+    Ok(trail)
+}
+
+/// What a first literal teaches.
+fn first_lesson(
+    rt: &impl Abort,
+    alloc: Global,
+    arena: &Arena,
+    marks: &mut Marks,
+    literal: u32,
+) -> Result<Lesson, Fail>
+    requires long { AreLong arena.now }
+    requires marks { marks.old ≡ 3 }
+    ensures { marks.new ≡ marks.old }
+{
+    let mut trail = begun(rt, alloc, arena)?;
+    let lesson = learn(rt, alloc, &mut trail, arena, literal, marks)?;
+    Ok(lesson)
+}
+
+/// What a second literal teaches, behind a first that falsifies no clause.
+fn second_lesson(
+    rt: &impl Abort,
+    alloc: Global,
+    arena: &Arena,
+    marks: &mut Marks,
+    first: u32,
+    second: u32,
+) -> Result<Lesson, Fail>
+    requires long { AreLong arena.now }
+    requires marks { marks.old ≡ 3 }
+    ensures { marks.new ≡ marks.old }
+{
+    let mut trail = begun(rt, alloc, arena)?;
+    pass(rt, &mut trail, arena, first);
+    let lesson = learn(rt, alloc, &mut trail, arena, second, marks)?;
+    Ok(lesson)
+}
+
+/// The lesson is that not both variables are present, and goes back to level 1.
+fn is_that_of_the_fork(rt: &impl Abort, lesson: &Lesson) {
+    assert!(rt; lesson.literals.len() == 2);
+    assert!(rt; lesson.literals.contains(&1));
+    assert!(rt; lesson.literals.contains(&3));
+    assert!(rt; lesson.asserting == 3);
+    assert!(rt; lesson.back == 1);
+}
+
 /// Both values of variable 1 clash where variable 0 is absent.
 #[test]
 fn a_unit_clause_is_learned(rt: HostRuntime) -> Result<(), Fail> {
-    let mut arena = Arena::new(rt.alloc(), 3)?;
-    put_two(&rt, &mut arena, 0, 2)?;
-    put_two(&rt, &mut arena, 0, 3)?;
-    put_two(&rt, &mut arena, 1, 2)?;
-    put_two(&rt, &mut arena, 1, 3)?;
-    let mut trail = Trail::new(rt.alloc(), 3)?;
-    let mut marks = Marks::new(rt.alloc(), 3)?;
-    assert!(rt; begin(&mut trail, &arena));
-    let lesson = learn(&rt, rt.alloc(), &mut trail, &arena, 1, &mut marks)?;
+    let arena = both_ways(&rt, rt.alloc())?;
+    let mut marks = marks_of_three(rt.alloc())?;
+    let lesson = first_lesson(&rt, rt.alloc(), &arena, &mut marks, 1)?;
     assert!(rt; lesson.literals.as_slice() == [0].as_slice());
-    assert!(rt; lesson.asserting == 0 && lesson.back == 0);
+    assert!(rt; lesson.asserting == 0);
+    assert!(rt; lesson.back == 0);
     Ok(())
 }
 
 /// Variables 0 and 1 are not both present, since variable 2 would have both values.
 #[test]
 fn a_clause_of_two_levels_is_learned(rt: HostRuntime) -> Result<(), Fail> {
-    let mut arena = Arena::new(rt.alloc(), 3)?;
-    put_three(&rt, &mut arena, 1, 3, 4)?;
-    put_three(&rt, &mut arena, 1, 3, 5)?;
-    let mut trail = Trail::new(rt.alloc(), 3)?;
-    let mut marks = Marks::new(rt.alloc(), 3)?;
-    assert!(rt; begin(&mut trail, &arena));
-    pass(&rt, &mut trail, &arena, 0);
-    let lesson = learn(&rt, rt.alloc(), &mut trail, &arena, 2, &mut marks)?;
-    assert!(rt; lesson.literals.len() == 2);
-    assert!(rt; lesson.literals.contains(&1) && lesson.literals.contains(&3));
-    assert!(rt; lesson.asserting == 3 && lesson.back == 1);
+    let arena = a_fork(&rt, rt.alloc())?;
+    let mut marks = marks_of_three(rt.alloc())?;
+    let lesson = second_lesson(&rt, rt.alloc(), &arena, &mut marks, 0, 2)?;
+    is_that_of_the_fork(&rt, &lesson);
     Ok(())
 }
 
 /// The same falsified clause teaches the same with marks that served before.
 #[test]
 fn marks_serve_again(rt: HostRuntime) -> Result<(), Fail> {
-    let mut arena = Arena::new(rt.alloc(), 3)?;
-    put_three(&rt, &mut arena, 1, 3, 4)?;
-    put_three(&rt, &mut arena, 1, 3, 5)?;
-    let mut marks = Marks::new(rt.alloc(), 3)?;
-    let mut first = Trail::new(rt.alloc(), 3)?;
-    assert!(rt; begin(&mut first, &arena));
-    pass(&rt, &mut first, &arena, 0);
-    let _lesson = learn(&rt, rt.alloc(), &mut first, &arena, 2, &mut marks)?;
-    let mut second = Trail::new(rt.alloc(), 3)?;
-    assert!(rt; begin(&mut second, &arena));
-    pass(&rt, &mut second, &arena, 0);
-    let lesson = learn(&rt, rt.alloc(), &mut second, &arena, 2, &mut marks)?;
-    assert!(rt; lesson.literals.len() == 2);
-    assert!(rt; lesson.literals.contains(&1) && lesson.literals.contains(&3));
-    assert!(rt; lesson.asserting == 3 && lesson.back == 1);
+    let arena = a_fork(&rt, rt.alloc())?;
+    let mut marks = marks_of_three(rt.alloc())?;
+    let first = second_lesson(&rt, rt.alloc(), &arena, &mut marks, 0, 2)?;
+    is_that_of_the_fork(&rt, &first);
+    let second = second_lesson(&rt, rt.alloc(), &arena, &mut marks, 0, 2)?;
+    is_that_of_the_fork(&rt, &second);
     Ok(())
 }

@@ -38,10 +38,12 @@ fn add(solver: &mut Solver, clause: &[u32]) -> Result<(), NoMemory>
 }
 
 /// A solver over two variables.
+#[tactic(auto, using(crate::proofs::SolversTestLemmas::fresh_new))]
 fn two(alloc: Global) -> Result<Solver, NoMemory>
     ensures { IfOk result (λ solver. IsFresh 2 solver) }
 {
-    Solver::new(alloc, 2)
+    let solver = Solver::new(alloc, 2)?;
+    Ok(solver)
 }
 
 /// The four clauses over two variables, which leave no model.
@@ -91,6 +93,26 @@ fn search_with(
 {
     assert!(rt; variable_of(literal) < 2);
     search_both(solver, &[literal], 0, log)
+}
+
+/// Searches with one assumption, and without budget, which must end so.
+fn expect_with(
+    rt: &impl Abort,
+    solver: &mut Solver,
+    literal: u32,
+    log: &mut MemLog,
+    expected: Outcome,
+)
+    requires fresh { IsFresh 2 solver.old }
+    requires whole { log.old.torn ≡ None }
+
+    ensures fresh { IsFresh 2 solver.new }
+    ensures whole { log.new.torn ≡ None }
+{
+    match search_with(rt, solver, literal, log) {
+        Ok(outcome) => assert!(rt; outcome == expected),
+        Err(_) => panic!(rt; "a fault"),
+    }
 }
 
 /// Given clauses have no numbers, and each call succeeds where memory is ample.
@@ -157,16 +179,10 @@ fn a_model_is_found(rt: HostRuntime) -> Result<(), Fail> {
     put(&rt, &mut solver, 0, 2)?;
     put(&rt, &mut solver, 1, 2)?;
     let mut log = MemLog::new(rt.alloc(), None);
-    match search_with(&rt, &mut solver, 0, &mut log) {
-        Ok(outcome) => assert!(rt; outcome == Outcome::Model),
-        Err(_) => panic!(rt; "a fault"),
-    }
-    assert!(rt; solver.value(0) && solver.value(1) && !solver.value(2));
-    match search_with(&rt, &mut solver, 3, &mut log) {
-        Ok(outcome) => assert!(rt; outcome == Outcome::Refuted),
-        Err(_) => panic!(rt; "a fault"),
-    }
-    assert!(rt; !solver.value(1));
+    expect_with(&rt, &mut solver, 0, &mut log, Outcome::Model);
+    assert_eq!(rt; values(&solver), 0b0011);
+    expect_with(&rt, &mut solver, 3, &mut log, Outcome::Refuted);
+    assert_eq!(rt; values(&solver), 0);
     Ok(())
 }
 
@@ -186,10 +202,12 @@ fn some_literal(seed: &mut u64) -> u32
 }
 
 /// A solver over four variables.
+#[tactic(auto, using(crate::proofs::SolversTestLemmas::fresh_new))]
 fn over_four(alloc: Global) -> Result<Solver, NoMemory>
     ensures { IfOk result (λ solver. IsFresh 4 solver) }
 {
-    Solver::new(alloc, 4)
+    let solver = Solver::new(alloc, 4)?;
+    Ok(solver)
 }
 
 /// Adds a clause over four variables.

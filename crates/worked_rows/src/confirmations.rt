@@ -2,7 +2,8 @@
 
 use crate::desk::{CONFIRM, shelf, sink, words};
 use cqapri_cli::{Status, run};
-use std::alloc::Global;
+use std::alloc::{AllocError, Global};
+use std::process::Abort;
 use std::test::Fail;
 
 const ONTOLOGY: &str = "Prof < Staff\nStudent < not Staff\n";
@@ -26,45 +27,45 @@ const END: &str = r#"{"answers":1,"ar":0,"brave":1,"iar":0,"k":"end","undecided"
 "#;
 
 #[test]
-fn a_report_is_accepted_or_its_first_broken_line_is_told(rt: HostRuntime) -> Result<(), Fail> {
+fn a_right_report_is_accepted(rt: HostRuntime) {
+    let lines = [HEAD, CORE, ANSWER, END];
+    tells(&rt, rt.alloc(), lines, Status::Done, "accepted 1\n");
+}
+
+#[test]
+fn the_first_broken_line_is_told(rt: HostRuntime) {
+    let alloc = rt.alloc();
     let bad_core = r#"{"dropped":[],"k":"core","kept":[0],"n":0}
 "#;
     let no_instead =
         r#"{"ar":"undecided","brave":"no","cores":[],"iar":"undecided","k":"answer","names":["ann"],"tuple":[0]}
 "#;
-    for (lines, status, text) in [
-        ([HEAD, CORE, ANSWER, END], Status::Done, "accepted 1\n"),
-        (
-            [HEAD, bad_core, ANSWER, END],
-            Status::Open,
-            "rejected line 2: core\n",
-        ),
-        (
-            [HEAD, CORE, ANSWER, ""],
-            Status::Open,
-            "rejected line 4: missing\n",
-        ),
-        (
-            [HEAD, no_instead, END, ""],
-            Status::Open,
-            "rejected line 2: answer\n",
-        ),
-        (
-            [HEAD, CORE, END, ANSWER],
-            Status::Open,
-            "rejected line 3: order\n",
-        ),
-        (
-            [HEAD, " ", ANSWER, END],
-            Status::Open,
-            "rejected line 2: text\n",
-        ),
-        (["", "", "", ""], Status::Open, "rejected line 1: missing\n"),
-    ] {
-        let is_told = is_told(rt.alloc(), lines, status, text)?;
-        assert!(rt; is_told, "of {text}");
+    rejects(&rt, alloc, [HEAD, bad_core, ANSWER, END], "2: core");
+    rejects(&rt, alloc, [HEAD, CORE, ANSWER, ""], "4: missing");
+    rejects(&rt, alloc, [HEAD, no_instead, END, ""], "2: answer");
+    rejects(&rt, alloc, [HEAD, CORE, END, ANSWER], "3: order");
+    rejects(&rt, alloc, [HEAD, " ", ANSWER, END], "2: text");
+    rejects(&rt, alloc, ["", "", "", ""], "1: missing");
+}
+
+/// `confirm` of the lines tells the line and the rule that it breaks.
+fn rejects(rt: &impl Abort, alloc: Global, lines: [&str; 4], broken: &str) {
+    match rejection(alloc, broken) {
+        Ok(text) => tells(rt, alloc, lines, Status::Open, &text),
+        Err(_) => panic!(rt; "no text"),
     }
-    Ok(())
+}
+
+fn rejection(alloc: Global, broken: &str) -> Result<String, AllocError> {
+    format!(in alloc; "rejected line {broken}\n")
+}
+
+/// `confirm` of the lines ends with the status, and tells the text.
+fn tells(rt: &impl Abort, alloc: Global, lines: [&str; 4], status: Status, text: &str) {
+    match is_told(alloc, lines, status, text) {
+        Ok(is_told) => assert!(rt; is_told, "of {text}"),
+        Err(_) => panic!(rt; "no run"),
+    }
 }
 
 /// Whether `confirm` of the lines ends with the status, with the text on `out` and nothing on `err`.
@@ -80,26 +81,37 @@ fn is_told(alloc: Global, lines: [&str; 4], status: Status, told: &str) -> Resul
     Ok(end == status && out.written() == told.as_bytes() && err.written().is_empty())
 }
 
+/// Without a report and with a fault of the shelf at the call, `confirm` ends with the status, with the text on `err` and nothing on `out`.
+fn ends_without_report(
+    rt: &impl Abort,
+    alloc: Global,
+    call: Option<u64>,
+    status: Status,
+    text: &str,
+) -> Result<(), Fail> {
+    let mut files = shelf(alloc, ONTOLOGY, FACTS, QUERY)?;
+    if let Some(call) = call {
+        files.fail_at(call)?;
+    }
+    let mut out = sink(alloc, None)?;
+    let mut err = sink(alloc, None)?;
+    let words = words(alloc, &CONFIRM)?;
+    let end = run(alloc, &words, &mut files, &mut out, &mut err);
+    assert_eq!(rt; end, status);
+    assert!(rt; err.written() == text.as_bytes(), "of {text}");
+    assert!(rt; out.written().is_empty());
+    Ok(())
+}
+
 #[test]
 fn a_report_that_is_not_fetched_is_told(rt: HostRuntime) -> Result<(), Fail> {
-    for (call, status, text) in [
-        (None, Status::Refused, "cqapri: report: not there\n"),
-        (Some(3), Status::ReadFault, "cqapri: report: read fault\n"),
-        (Some(2), Status::ReadFault, "cqapri: query: read fault\n"),
-    ] {
-        let alloc = rt.alloc();
-        let mut files = shelf(alloc, ONTOLOGY, FACTS, QUERY)?;
-        if let Some(call) = call {
-            files.fail_at(call)?;
-        }
-        let mut out = sink(alloc, None)?;
-        let mut err = sink(alloc, None)?;
-        let words = words(alloc, &CONFIRM)?;
-        let end = run(alloc, &words, &mut files, &mut out, &mut err);
-        assert_eq!(rt; end, status);
-        assert!(rt; err.written() == text.as_bytes(), "of {text}");
-        assert!(rt; out.written().is_empty());
-    }
+    let alloc = rt.alloc();
+    let missing = "cqapri: report: not there\n";
+    ends_without_report(&rt, alloc, None, Status::Refused, missing)?;
+    let fault = "cqapri: report: read fault\n";
+    ends_without_report(&rt, alloc, Some(3), Status::ReadFault, fault)?;
+    let earlier_fault = "cqapri: query: read fault\n";
+    ends_without_report(&rt, alloc, Some(2), Status::ReadFault, earlier_fault)?;
     Ok(())
 }
 

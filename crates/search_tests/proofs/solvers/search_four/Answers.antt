@@ -1,5 +1,5 @@
 use Rattle.std.proofs.Common.{[], ◌∷◌, arith}
-use Rattle.search_tests.proofs.SolversTestLemmas.{small_learned, next_learned, four_small}
+use Rattle.search_tests.proofs.SolversTestLemmas.{small_learned, next_learned, four_small, all_askable}
 use Rattle.search_tests.proofs.solvers.search_four.Goals as goal
 
 pub returns-clause-small : goal.returns-clause-small
@@ -16,3 +16,6 @@ returns-clause-learned c =
     let limit = learned.1.limit in
     let within = learned.1.within in
     omega (arith, next, limit, within, c.requires.within)
+
+pub solve-requires-clause-askable : goal.solve-requires-clause-askable
+solve-requires-clause-askable c = all_askable c.args.solver.now c.args.assume.now c.requires.small c.requires.in_range

@@ -2,7 +2,7 @@ use Rattle.std.proofs.Common.{List, Contains, sym, subst}
 use Rattle.cq_terms.specs.declared.facts.Fact.{Fact}
 use Rattle.cq_terms.specs.Knowledge.{AreDistinct}
 use Rattle.matching_tests.proofs.DistinctLemmas.{distinct_push}
-use Rattle.matching_tests.proofs.chance.put.Goals as goal
+use Rattle.matching_tests.proofs.tables.put.Goals as goal
 
 pub returns : goal.returns
 returns c =

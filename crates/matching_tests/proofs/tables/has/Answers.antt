@@ -1,7 +1,7 @@
 use Rattle.std.proofs.Common.{◌≡◌, All, List, take_all, subst, refl}
 use Rattle.std.proofs.lemmas.List.Elements.{All-more, All-contains}
 use Rattle.cq_terms.specs.declared.facts.Fact.{Fact}
-use Rattle.matching_tests.proofs.chance.has.Goals as goal
+use Rattle.matching_tests.proofs.tables.has.Goals as goal
 
 pub loop-known-preserved : goal.loop-known-preserved
 loop-known-preserved c =

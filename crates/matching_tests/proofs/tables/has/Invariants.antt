@@ -1,5 +1,5 @@
 use Rattle.std.proofs.Common.{◌≡◌, All, take}
-use Rattle.matching_tests.proofs.chance.has.Given as goal
+use Rattle.matching_tests.proofs.tables.has.Given as goal
 
 abbrev pub invariant-loop-known : goal.invariant-loop-known
 invariant-loop-known l = All (λ f. f ≡ l.fact → ⊥) (take l.known-index l.facts)
