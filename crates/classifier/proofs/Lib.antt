@@ -1,0 +1,9 @@
+pub mod WholeAnswerLemmas
+pub mod WholeBlockLemmas
+pub mod WholeCauseLemmas
+pub mod WholeConflictLemmas
+pub mod WholeCountLemmas
+pub mod WholeOpeningLemmas
+pub mod WholeQuietLemmas
+pub mod WholeStepLemmas
+pub mod WholeWritingLemmas

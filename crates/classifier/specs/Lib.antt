@@ -1,0 +1,4 @@
+pub mod WholeInputs
+pub mod WholeLines
+pub mod WholeReports
+pub mod WholeWriting

@@ -1,0 +1,3 @@
+pub mod CycleWidening
+pub mod NamedTuples
+pub mod PreparedLemmas
