@@ -1,5 +1,7 @@
 -- What a shelf in memory shows.
-use Rattle.std.specs.Prelude.{◌≡◌, ℕ, List, [], ◌∷◌, Option, Some, None, position, if◌then◌else◌}
+use Rattle.std.specs.Prelude.{◌≡◌, ℕ, List, [], ◌∷◌, Option, Some, None, position, if◌then◌else◌, ◌==◌}
+use Rattle.std.specs.List.{list_any}
+use Rattle.cq_io.specs.Failing.{Failing}
 use Rattle.std.specs.Str.{bytes_eq}
 
 -- A shelf's files, as names with bytes; the numbers of the fetches that fail; the number of the next
@@ -9,6 +11,10 @@ pub record ShelfState : Type 0 where
   pub failing : List ℕ
   pub next_call : ℕ
   pub faults : ℕ
+
+-- the fetches that fail: those whose numbers are on the list
+abbrev pub failing_of : ShelfState → Failing
+failing_of shelf = record { next = shelf.next_call; fails = λ number. list_any (λ listed. listed == number) shelf.failing }
 
 -- the bytes under a name: those of the first file that has it
 abbrev pub bytes_under : List (List ℕ × List ℕ) → List ℕ → Option (List ℕ)

@@ -44,6 +44,8 @@ impl<R: Files> Shelf for FileShelf<'_, R> {
 
     ghost faults = { fault_count };
 
+    ghost failing = { λ _. None };
+
     fn fetch(&mut self, name: &str, limit: u64, into: &mut Vec<u8>) -> Result<Size, FetchFault> {
         let result = self.read(name, limit, into);
         if matches!(result, Err(FetchFault::Failed)) {

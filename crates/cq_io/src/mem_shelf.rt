@@ -2,7 +2,8 @@
 ghost use Rattle.std.specs.Prelude.{◌≡◌, ◌^◌, ◌<◌, ◌↔◌, ◌++◌, ◌∷◌, [], Some, IfOk, OnOk, OnErr, IsErrOf, Contains, option_copied};
 ghost use Rattle.cq_io.specs.Faults.{TellsFault, one_more, faults_after};
 ghost use Rattle.cq_io.specs.Fetching.{has_failed, Fetches, FitsLimit};
-ghost use Rattle.cq_io.specs.MemShelf.{bytes_under, place_of, Puts};
+ghost use Rattle.cq_io.specs.MemShelf.{bytes_under, failing_of, place_of, Puts};
+ghost use Rattle.cq_io.specs.Failing.{fails_next, after_fetch};
 ghost use Rattle.std.specs.Str.{bytes_eq};
 
 use crate::{FetchFault, Shelf, Size};
@@ -148,6 +149,8 @@ impl Shelf for MemShelf {
 
     ghost faults = { λ shelf. shelf.faults };
 
+    ghost failing = { λ shelf. Some (failing_of shelf) };
+
     fn fetch(&mut self, name: &str, limit: u64, into: &mut Vec<u8>) -> Result<Size, FetchFault>
         requires empty { into.old.items ≡ [] }
         requires limit_fits { limit < 2 ^ 32 }
@@ -157,6 +160,7 @@ impl Shelf for MemShelf {
         ensures fits { FitsLimit result limit into.new.items }
         ensures fault { TellsFault self.old.faults self.new.faults (has_failed result) }
 
+        ensures told { has_failed result ≡ fails_next (failing_of self.old) }
         ensures fails { IsErrOf result FetchFault.Failed
             ↔ Contains self.old.failing self.old.next_call }
         ensures nothing_else { self.new ≡ record self.old {

@@ -1,5 +1,6 @@
 //! A shelf: files by their names, seen as a map from names to bytes and a count of faults.
 ghost use Rattle.std.specs.Prelude.{◌≡◌, ℕ, ◌^◌, ◌<◌, List, [], Option, IfOk, IfSome};
+ghost use Rattle.cq_io.specs.Failing.{Failing, fails_next, after_fetch};
 ghost use Rattle.cq_io.specs.declared.shelf.FetchFault.TheVariants.{NoMemory as no_memory};
 ghost use Rattle.cq_io.specs.Faults.{TellsFault};
 ghost use Rattle.cq_io.specs.Fetching.{has_failed, Fetches, FitsLimit};
@@ -52,6 +53,9 @@ pub trait Shelf {
     /// How often it has failed. The count never falls, and stays at 2^64 - 1 once it is reached.
     ghost faults: { Self → ℕ };
 
+    /// Which of its fetches fail, where it tells it.
+    ghost failing: { Self → Option Failing };
+
     /// Fetches the bytes of the file `name` into `into`, which is empty, where they are at most
     /// `limit`. Only after `Size::Whole` has `into` any bytes. `FetchFault::Failed` comes only
     /// where the shelf counted a fault in this call.
@@ -64,6 +68,8 @@ pub trait Shelf {
         // Whether the shelf tells what it holds or not.
         ensures fits { FitsLimit result limit into.new.items }
         ensures fault { TellsFault (faults self.old) (faults self.new) (has_failed result) }
+        ensures told { IfSome (failing self.old) (λ told. has_failed result ≡ fails_next told) }
 
+        ensures next { failing self.new ≡ after_fetch (failing self.old) }
         ensures same_files { holds self.new ≡ holds self.old };
 }
