@@ -1,0 +1,17 @@
+pub mod BaseLemmas
+pub mod CauseTests
+pub mod ClashFinding
+pub mod CoreLemmas
+pub mod EasyLemmas
+pub mod ForgetLemmas
+pub mod GroupLemmas
+pub mod InsertLemmas
+pub mod InsideLemmas
+pub mod KeptLemmas
+pub mod LearnableLemmas
+pub mod NumberLemmas
+pub mod PartLemmas
+pub mod PlaceLemmas
+pub mod RankLemmas
+pub mod ResultFacts
+pub mod WalkLemmas

@@ -1,0 +1,9 @@
+pub mod BaseParts
+pub mod Clashes
+pub mod CoreParts
+pub mod EasyParts
+pub mod Groups
+pub mod InsideClauses
+pub mod Kept
+pub mod Ready
+pub mod Walks

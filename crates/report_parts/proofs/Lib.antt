@@ -1,0 +1,7 @@
+pub mod BlockLemmas
+pub mod CodeLemmas
+pub mod ListFacts
+pub mod MoveLemmas
+pub mod OrderLemmas
+pub mod SettledLemmas
+pub mod TestLemmas

@@ -1,0 +1,6 @@
+pub mod AskLemmas
+pub mod ClosedLemmas
+pub mod DoneLemmas
+pub mod EasyLemmas
+pub mod JoinLemmas
+pub mod LearnLemmas

@@ -1,0 +1,14 @@
+pub mod CuttingLemmas
+pub mod FindingLemmas
+pub mod FittingLemmas
+pub mod FoundLemmas
+pub mod JudgedLemmas
+pub mod LoopLemmas
+pub mod ObeyingLemmas
+pub mod OrderRules
+pub mod RangeLemmas
+pub mod ReadyLemmas
+pub mod RoomLemmas
+pub mod SayingLemmas
+pub mod StepLemmas
+pub mod TakingLemmas
