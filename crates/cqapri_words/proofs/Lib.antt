@@ -1,0 +1,4 @@
+mod CycleLemmas
+mod JobLemmas
+mod PieceLemmas
+mod WordLemmas

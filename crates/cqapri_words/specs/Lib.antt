@@ -1,0 +1,11 @@
+pub mod Cycles
+pub mod Faults
+pub mod Files
+pub mod Jobs
+pub mod Numbers
+pub mod Options
+pub mod Pairs
+pub mod Pieces
+pub mod Refusals
+pub mod Status
+pub mod Words

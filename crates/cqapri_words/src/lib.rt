@@ -1,0 +1,25 @@
+//! The words of the program, its statuses, and the texts of its refusals.
+#![tactic(auto)]
+
+mod cycle;
+mod fact_texts;
+mod fault;
+mod files;
+mod law;
+mod number;
+mod options;
+mod pairs;
+mod pieces;
+mod refusal;
+mod status;
+mod words;
+
+pub use cycle::Cycle;
+pub use fault::Fault;
+pub use files::{File, Quantity};
+pub use law::one_meaning;
+pub use options::{Command, CommandOption};
+pub use pieces::write_pieces;
+pub use refusal::Refusal;
+pub use status::Status;
+pub use words::{Job, Options, Paths, job_of};
