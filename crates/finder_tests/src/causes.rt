@@ -1,12 +1,12 @@
 //! Candidates and causes that are known.
 
-ghost use Rattle.std.specs.Prelude.{◌≡◌, ◌<◌, ◌^◌, ◌∷◌, [], IfOk, length};
-ghost use Rattle.cq_terms.specs.Query.{StandsIn};
+ghost use Rattle.std.specs.Prelude.{◌≡◌, ◌<◌, ◌^◌, ◌∷◌, [], IfOk};
 
 use cause_finder::{Candidate, CauseRefusal, causes};
+use cq_steps::Closure;
 use cq_terms::{Axiom, Basic, Clash, Conflicts, Cq, Fact, Ids, NoMemory, QAtom, Role, Term};
 use fact_index::Index;
-use perfect_ref::close;
+use perfect_ref::{CloseRefusal, close};
 use std::alloc::Global;
 use std::test::Fail;
 
@@ -58,13 +58,9 @@ fn answers(
     index: &Index,
     conflicts: &Conflicts,
     rows: &[Row],
-) -> Result<bool, Fail>
-    requires facts { conflicts.now.facts ≡ length index.now }
-    requires atoms_fit { length asked.now.body < 2 ^ 31 }
-    requires axioms_fit { length axioms.now < 2 ^ 31 }
-{
-    let closure = close(alloc, asked, axioms, 10)?;
-    let found = causes(alloc, axioms, &closure, index, conflicts, 3)?;
+) -> Result<bool, Fail> {
+    let closure = closed(alloc, asked, axioms)?;
+    let found = found(alloc, axioms, &closure, index, conflicts, 3)?;
     Ok(are(&found, rows))
 }
 
@@ -76,13 +72,34 @@ fn refusal(
     index: &Index,
     conflicts: &Conflicts,
     limit: u64,
-) -> Result<Option<CauseRefusal>, Fail>
-    requires facts { conflicts.now.facts ≡ length index.now }
-    requires atoms_fit { length asked.now.body < 2 ^ 31 }
-    requires axioms_fit { length axioms.now < 2 ^ 31 }
-{
+) -> Result<Option<CauseRefusal>, Fail> {
+    let closure = closed(alloc, asked, axioms)?;
+    Ok(found(alloc, axioms, &closure, index, conflicts, limit).err())
+}
+
+/// The closure of a query of at most twelve atoms under at most twelve axioms, which has at most ten members.
+fn closed(alloc: Global, asked: &Cq, axioms: &[Axiom]) -> Result<Closure, CloseRefusal> {
+    if asked.body().len() > 12 || axioms.len() > 12 {
+        return Err(CloseRefusal::TooManyCqs);
+    }
     let closure = close(alloc, asked, axioms, 10)?;
-    Ok(causes(alloc, axioms, &closure, index, conflicts, limit).err())
+    Ok(closure)
+}
+
+/// The candidates under the closure, where the conflicts are of as many facts as the index has.
+fn found(
+    alloc: Global,
+    axioms: &[Axiom],
+    closure: &Closure,
+    index: &Index,
+    conflicts: &Conflicts,
+    limit: u64,
+) -> Result<Vec<Candidate>, CauseRefusal> {
+    if conflicts.facts() != index.len() {
+        return Err(CauseRefusal::NoMemory);
+    }
+    let found = causes(alloc, axioms, closure, index, conflicts, limit)?;
+    Ok(found)
 }
 
 /// The first concept is below the second.
@@ -93,37 +110,24 @@ fn below(left: u32, right: u32) -> Axiom {
     }
 }
 
-/// The query of these atoms, with x as its head.
-fn query(alloc: Global, first: QAtom, more: &[QAtom]) -> Result<Cq, NoMemory>
-    requires meant { StandsIn 0 first }
-    requires few { length more.now < 9 }
-
-    ensures short { IfOk result (λ q. length q.body < 2 ^ 31) }
-{
-    let mut body = Vec::new(alloc);
-    body.push(first)?;
-    body.extend_from_slice(more)?;
-    let mut head = Vec::new(alloc);
-    head.push(X)?;
-    Ok(Cq::new(head, body))
+/// The query of the two lists.
+fn query(alloc: Global, head: &[Term], body: &[QAtom]) -> Result<Cq, Fail> {
+    let head = Vec::from_slice(alloc, head)?;
+    let body = Vec::from_slice(alloc, body)?;
+    let query = Cq::checked(head, body).ok_or("no query")?;
+    Ok(query)
 }
 
-fn concept(pred: u32) -> QAtom
-    ensures { result ≡ QAtom.Concept pred (Term.Var 0) }
-{
-    QAtom::Concept {
-        pred,
-        at: Term::Var(0),
-    }
+fn concept(pred: u32) -> QAtom {
+    QAtom::Concept { pred, at: X }
 }
 
 /// No conflict.
 fn no_conflict(alloc: Global, facts: u32) -> Result<Conflicts, NoMemory>
     requires few { facts < 2 ^ 31 }
-
-    ensures exact { IfOk result (λ c. c.facts ≡ facts) }
 {
-    Conflicts::new(alloc, facts, Vec::new(alloc))
+    let conflicts = Conflicts::new(alloc, facts, Vec::new(alloc))?;
+    Ok(conflicts)
 }
 
 fn clash_of_one(alloc: Global, fact: u32) -> Result<Clash, NoMemory>
@@ -152,9 +156,7 @@ fn clash_of_two(alloc: Global, lower: u32, upper: u32) -> Result<Clash, NoMemory
 }
 
 /// Three concepts of one individual.
-fn three_concepts(alloc: Global) -> Result<Index, NoMemory>
-    ensures { IfOk result (λ index. length index ≡ 3) }
-{
+fn three_concepts(alloc: Global) -> Result<Index, NoMemory> {
     let index = Index::build(
         alloc,
         &[
@@ -172,7 +174,7 @@ fn each_way_is_a_cause(rt: HostRuntime) -> Result<(), Fail> {
     let axioms = [below(0, 3), below(1, 3)];
     let index = three_concepts(alloc)?;
     let conflicts = no_conflict(alloc, 3)?;
-    let asked = query(alloc, concept(3), &[concept(2)])?;
+    let asked = query(alloc, &[X], &[concept(3), concept(2)])?;
     let rows: [Row; 1] = [(&[0], &[(&[0, 2], 1), (&[1, 2], 2)])];
     assert!(rt; answers(alloc, &asked, &axioms, &index, &conflicts, &rows)?);
     assert_eq!(rt;
@@ -185,18 +187,15 @@ fn each_way_is_a_cause(rt: HostRuntime) -> Result<(), Fail> {
 }
 
 /// One fact that is self-inconsistent.
-fn own_conflict(alloc: Global) -> Result<Conflicts, NoMemory>
-    ensures { IfOk result (λ c. c.facts ≡ 1) }
-{
+fn own_conflict(alloc: Global) -> Result<Conflicts, NoMemory> {
     let mut clashes = Vec::new(alloc);
     clashes.push(clash_of_one(alloc, 0)?)?;
-    Conflicts::new(alloc, 1, clashes)
+    let conflicts = Conflicts::new(alloc, 1, clashes)?;
+    Ok(conflicts)
 }
 
 /// One concept of one individual.
-fn one_concept(alloc: Global) -> Result<Index, NoMemory>
-    ensures { IfOk result (λ index. length index ≡ 1) }
-{
+fn one_concept(alloc: Global) -> Result<Index, NoMemory> {
     let index = Index::build(alloc, &[Fact::Concept { pred: 0, ind: 0 }])?;
     Ok(index)
 }
@@ -220,15 +219,13 @@ fn a_self_inconsistent_candidate_has_no_cause(rt: HostRuntime) -> Result<(), Fai
     ];
     let index = one_concept(alloc)?;
     let conflicts = own_conflict(alloc)?;
-    let asked = query(alloc, concept(0), &[])?;
+    let asked = query(alloc, &[X], &[concept(0)])?;
     assert!(rt; answers(alloc, &asked, &axioms, &index, &conflicts, &[(&[0], &[])])?);
     Ok(())
 }
 
 /// A link from 0 to itself, and one each way between 0 and 1.
-fn three_links(alloc: Global) -> Result<Index, NoMemory>
-    ensures { IfOk result (λ index. length index ≡ 3) }
-{
+fn three_links(alloc: Global) -> Result<Index, NoMemory> {
     let index = Index::build(
         alloc,
         &[
@@ -253,32 +250,17 @@ fn three_links(alloc: Global) -> Result<Index, NoMemory>
 }
 
 /// Fact 0 is self-inconsistent, and facts 1 and 2 conflict.
-fn link_conflicts(alloc: Global) -> Result<Conflicts, NoMemory>
-    ensures { IfOk result (λ c. c.facts ≡ 3) }
-{
+fn link_conflicts(alloc: Global) -> Result<Conflicts, NoMemory> {
     let mut clashes = Vec::new(alloc);
     clashes.push(clash_of_one(alloc, 0)?)?;
     clashes.push(clash_of_two(alloc, 1, 2)?)?;
-    Conflicts::new(alloc, 3, clashes)
+    let conflicts = Conflicts::new(alloc, 3, clashes)?;
+    Ok(conflicts)
 }
 
 /// A link of the role 0.
-fn link(from: Term, to: Term) -> QAtom
-    ensures { result ≡ QAtom.Link 0 from to }
-{
+fn link(from: Term, to: Term) -> QAtom {
     QAtom::Link { pred: 0, from, to }
-}
-
-/// Whom a link goes from and to.
-fn ends(alloc: Global) -> Result<Cq, NoMemory>
-    ensures { IfOk result (λ q. length q.body < 2 ^ 31) }
-{
-    let mut body = Vec::new(alloc);
-    body.push(link(X, Y))?;
-    let mut head = Vec::new(alloc);
-    head.push(X)?;
-    head.push(Y)?;
-    Ok(Cq::new(head, body))
 }
 
 #[test]
@@ -290,7 +272,7 @@ fn links_that_clash_are_no_causes(rt: HostRuntime) -> Result<(), Fail> {
     }];
     let index = three_links(alloc)?;
     let conflicts = link_conflicts(alloc)?;
-    let asked = ends(alloc)?;
+    let asked = query(alloc, &[X, Y], &[link(X, Y)])?;
     let rows: [Row; 3] = [
         (&[0, 0], &[]),
         (&[0, 1], &[(&[1], 0)]),
@@ -309,24 +291,14 @@ fn a_join_of_two_may_rest_on_one_fact(rt: HostRuntime) -> Result<(), Fail> {
     }];
     let index = one_concept(alloc)?;
     let conflicts = no_conflict(alloc, 1)?;
-    let asked = query(alloc, link(X, Y), &[link(Z, Y)])?;
+    let asked = query(alloc, &[X], &[link(X, Y), link(Z, Y)])?;
     let rows: [Row; 1] = [(&[0], &[(&[0], 2)])];
     assert!(rt; answers(alloc, &asked, &axioms, &index, &conflicts, &rows)?);
     Ok(())
 }
 
-/// Whether a concept has someone.
-fn whether(alloc: Global) -> Result<Cq, NoMemory>
-    ensures { IfOk result (λ q. length q.body < 2 ^ 31) }
-{
-    let mut body = Vec::new(alloc);
-    body.push(concept(0))?;
-    Ok(Cq::new(Vec::new(alloc), body))
-}
-
-#[test]
-fn a_query_without_head_has_one_candidate(rt: HostRuntime) -> Result<(), Fail> {
-    let alloc = rt.alloc();
+/// Two individuals in one concept.
+fn two_members(alloc: Global) -> Result<Index, NoMemory> {
     let index = Index::build(
         alloc,
         &[
@@ -334,8 +306,15 @@ fn a_query_without_head_has_one_candidate(rt: HostRuntime) -> Result<(), Fail> {
             Fact::Concept { pred: 0, ind: 1 },
         ],
     )?;
+    Ok(index)
+}
+
+#[test]
+fn a_query_without_head_has_one_candidate(rt: HostRuntime) -> Result<(), Fail> {
+    let alloc = rt.alloc();
+    let index = two_members(alloc)?;
     let conflicts = no_conflict(alloc, 2)?;
-    let asked = whether(alloc)?;
+    let asked = query(alloc, &[], &[concept(0)])?;
     let rows: [Row; 1] = [(&[], &[(&[0], 0), (&[1], 0)])];
     assert!(rt; answers(alloc, &asked, &[], &index, &conflicts, &rows)?);
     Ok(())

@@ -1,8 +1,6 @@
 //! Tables whose conflicts are known.
 
-ghost use Rattle.std.specs.Prelude.{◌<◌, ◌^◌, length};
-
-use conflict_finder::{FindRefusal, find};
+use conflict_finder::{FindRefusal, FoundConflicts, find};
 use cq_steps::Closure;
 use cq_terms::{Axiom, Basic, Clash, Fact, NoMemory, Role};
 use fact_index::Index;
@@ -47,12 +45,13 @@ fn square() -> [Axiom; 4] {
 
 /// One individual in the first concept.
 fn corner(alloc: Global) -> Result<Index, NoMemory> {
-    Index::build(alloc, &[Fact::Concept { pred: 0, ind: 0 }])
+    let index = Index::build(alloc, &[Fact::Concept { pred: 0, ind: 0 }])?;
+    Ok(index)
 }
 
 /// One individual in four concepts.
 fn corners(alloc: Global) -> Result<Index, NoMemory> {
-    Index::build(
+    let index = Index::build(
         alloc,
         &[
             Fact::Concept { pred: 0, ind: 0 },
@@ -60,12 +59,13 @@ fn corners(alloc: Global) -> Result<Index, NoMemory> {
             Fact::Concept { pred: 2, ind: 0 },
             Fact::Concept { pred: 3, ind: 0 },
         ],
-    )
+    )?;
+    Ok(index)
 }
 
 /// A link from an individual to itself, and two between it and another.
 fn links(alloc: Global) -> Result<Index, NoMemory> {
-    Index::build(
+    let index = Index::build(
         alloc,
         &[
             Fact::Link {
@@ -84,7 +84,8 @@ fn links(alloc: Global) -> Result<Index, NoMemory> {
                 to: 0,
             },
         ],
-    )
+    )?;
+    Ok(index)
 }
 
 /// Whether the clashes are those of these facts, axioms and members, in this order.
@@ -111,12 +112,38 @@ fn finds(
     index: &Index,
     rows: &[(&[u32], u32, u32)],
     sizes: &[(u32, usize)],
-) -> Result<bool, FindRefusal>
-    requires few_axioms { length axioms.now < 2 ^ 31 }
-    requires few_rows { length rows.now < 2 ^ 31 }
-{
-    let found = find(alloc, axioms, index, 3, rows.len() as u64)?;
+) -> Result<bool, FindRefusal> {
+    if rows.len() > 12 {
+        return Ok(false);
+    }
+    let found = found(alloc, axioms, index, 3, rows.len() as u32)?;
     Ok(are(found.conflicts.clashes(), rows) && close(&found.closures, sizes))
+}
+
+/// What is found for at most twelve axioms under small limits.
+fn found(
+    alloc: Global,
+    axioms: &[Axiom],
+    index: &Index,
+    max_cqs: u32,
+    max_conflicts: u32,
+) -> Result<FoundConflicts, FindRefusal> {
+    if axioms.len() > 12 || max_conflicts > 12 {
+        return Err(FindRefusal::NoMemory);
+    }
+    let found = find(alloc, axioms, index, max_cqs, max_conflicts as u64)?;
+    Ok(found)
+}
+
+/// Why nothing is found for the axioms under these limits.
+fn refusal(
+    alloc: Global,
+    axioms: &[Axiom],
+    index: &Index,
+    max_cqs: u32,
+    max_conflicts: u32,
+) -> Option<FindRefusal> {
+    found(alloc, axioms, index, max_cqs, max_conflicts).err()
 }
 
 #[test]
@@ -182,7 +209,7 @@ fn a_self_inconsistent_fact_is_in_no_pair(rt: HostRuntime) -> Result<(), Fail> {
 #[test]
 fn more_conflicts_than_the_limit(rt: HostRuntime) -> Result<(), Fail> {
     let index = corners(rt.alloc())?;
-    let few = find(rt.alloc(), &square(), &index, 3, 3).err();
+    let few = refusal(rt.alloc(), &square(), &index, 3, 3);
     assert_eq!(rt; few, Some(FindRefusal::Conflicts));
     Ok(())
 }
@@ -190,9 +217,9 @@ fn more_conflicts_than_the_limit(rt: HostRuntime) -> Result<(), Fail> {
 #[test]
 fn closures_come_before_conflicts(rt: HostRuntime) -> Result<(), Fail> {
     let index = corner(rt.alloc())?;
-    let short = find(rt.alloc(), &impossible(), &index, 2, 0).err();
+    let short = refusal(rt.alloc(), &impossible(), &index, 2, 0);
     assert_eq!(rt; short, Some(FindRefusal::Closure { axiom: 2 }));
-    let none = find(rt.alloc(), &impossible(), &index, 3, 0).err();
+    let none = refusal(rt.alloc(), &impossible(), &index, 3, 0);
     assert_eq!(rt; none, Some(FindRefusal::Conflicts));
     Ok(())
 }
