@@ -1,8 +1,6 @@
-//! Tests of lines of reports, printed and read, and of reports that are confirmed.
+//! Tests of lines of reports, printed and read.
 #![tactic(auto)]
 
-#[cfg(test)]
-mod confirmations;
 #[cfg(test)]
 mod lines;
 #[cfg(test)]

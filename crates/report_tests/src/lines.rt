@@ -76,7 +76,7 @@ fn further_lines_come_back(rt: HostRuntime) {
         alloc,
         &[
             // A head, a query and an end are read as JSON values.
-            r#"{"axioms":2,"budget":0,"facts":2,"k":"head","keep":0,"repairs":"all","version":0}"#,
+            r#"{"axioms":2,"budget":0,"facts":2,"k":"head","keep":0,"repairs":"all","version":1}"#,
             r#"{"axioms":4294967295,"budget":18446744073709551615,"facts":4294967295,"k":"head","keep":18446744073709551615,"repairs":"all","version":1}"#,
             // A role, an individual and `_`; and two atoms made one.
             r#"{"body":[["c",1,[7]],["r",0,0,null]],"head":[0,[7]],"k":"cq","move":["reduce",1,2],"of":4294967295,"parent":3}"#,
@@ -361,7 +361,8 @@ fn other_texts_are_no_lines(rt: HostRuntime) {
             r#"{"core":01,"how":"model","k":"done"}"#,
             // Words: an unknown version, repairs, verdict and kind, escapes that aren't needed or have other digits, and half a character.
             r#"{"axioms":2,"budget":0,"facts":2,"k":"head","keep":0,"repairs":"all","version":2}"#,
-            r#"{"axioms":2,"budget":0,"facts":2,"k":"head","keep":0,"repairs":"some","version":0}"#,
+            r#"{"axioms":2,"budget":0,"facts":2,"k":"head","keep":0,"repairs":"all","version":0}"#,
+            r#"{"axioms":2,"budget":0,"facts":2,"k":"head","keep":0,"repairs":"some","version":1}"#,
             r#"{"ar":"maybe","brave":"yes","cores":[0],"iar":"no","k":"answer","names":["ann"],"tuple":[0]}"#,
             r#"{"dropped":[1],"k":"kernel","kept":[0],"n":0}"#,
             r#"{"ar":"no","brave":"yes","cores":[0],"iar":"no","k":"answer","names":["\u0061nn"],"tuple":[0]}"#,

@@ -11,7 +11,7 @@ use Rattle.report_text.specs.Fields.{number_data, id_at, long_at, word_at}
 
 -- the versions that are known
 abbrev pub known_versions : List ℕ
-known_versions = 0 ∷ 1 ∷ []
+known_versions = 1 ∷ []
 
 -- whether a version is known
 abbrev pub is_known_version : ℕ → Bool

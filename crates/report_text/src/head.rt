@@ -12,7 +12,7 @@ use cq_terms::Repairs;
 use serde_json::Value;
 use std::alloc::AllocError;
 
-const KNOWN_VERSIONS: [u32; 2] = [0, 1];
+const KNOWN_VERSIONS: [u32; 1] = [1];
 
 /// Appends the head's text.
 pub fn put_head(
