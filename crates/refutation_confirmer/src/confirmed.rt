@@ -3,9 +3,8 @@
 ghost use Rattle.std.specs.Prelude.{◌≡◌};
 ghost use Rattle.refutation_confirmer.specs.declared.confirmed.ConfirmFault.TheVariants as fault;
 
-use cq_terms::NoMemory;
+use cq_terms::{Ids, NoMemory};
 use report_rules::Rule;
-use report_text::ReadRefusal;
 use std::alloc::AllocError;
 
 /// Whether a report is accepted.
@@ -26,19 +25,28 @@ pub enum Confirmed {
 }
 
 /// Why a report was not judged.
-#[derive(Clone, Copy, Debug, PartialEq, Eq)]
+#[derive(Debug, Drop)]
 pub enum ConfirmFault {
+    /// The priority has a cycle.
+    Cycle {
+        /// The facts of a cycle: each is better than the next, and the last than the first.
+        facts: Ids,
+    },
     /// Memory ran out.
     NoMemory,
 }
 
 impl From<NoMemory> for ConfirmFault {
+    ghost from_gives = { λ _ e. e ≡ fault.NoMemory };
+
     fn from(_error: NoMemory) -> ConfirmFault {
         ConfirmFault::NoMemory
     }
 }
 
 impl From<AllocError> for ConfirmFault {
+    ghost from_gives = { λ _ e. e ≡ fault.NoMemory };
+
     fn from(_error: AllocError) -> ConfirmFault {
         ConfirmFault::NoMemory
     }

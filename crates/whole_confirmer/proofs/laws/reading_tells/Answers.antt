@@ -1,5 +1,0 @@
-use Rattle.whole_confirmer.proofs.LoopLemmas.{reading_tells}
-use Rattle.whole_confirmer.proofs.laws.reading_tells.Goals as goal
-
-pub returns : goal.returns
-returns c kb names q report = reading_tells kb names q report

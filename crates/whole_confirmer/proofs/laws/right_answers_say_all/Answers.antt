@@ -1,5 +1,0 @@
-use Rattle.whole_confirmer.proofs.SayingLemmas.{says}
-use Rattle.whole_confirmer.proofs.laws.right_answers_say_all.Goals as goal
-
-pub returns : goal.returns
-returns c kb names q report answer w = says kb names q report answer w

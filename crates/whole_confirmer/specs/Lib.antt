@@ -1,8 +1,0 @@
-pub mod Cutting
-pub mod Following
-pub mod Kinds
-pub mod Reading
-pub mod Room
-pub mod Saying
-pub mod State
-pub mod Steps
