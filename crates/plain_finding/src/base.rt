@@ -35,6 +35,7 @@ pub fn base_clauses(
     for fact in 0..conflicts.facts() {
         add_fact(&mut clauses, &mut clause, conflicts, better, fact)?;
     }
+    clauses.settle()?;
     Ok(clauses)
 }
 

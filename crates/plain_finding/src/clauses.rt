@@ -92,6 +92,13 @@ impl Clauses {
         Ok(())
     }
 
+    /// Propagates the live clauses once, for all later calls. It changes no answer.
+    pub fn settle(&mut self) -> Result<(), NoMemory>
+        ensures unchanged { self.new ≡ self.old }
+    {
+        self.checker.settle()
+    }
+
     /// Adds the clause of a cause of the open answer.
     fn add_open(&mut self, clause: &[u32]) -> Result<(), NoMemory>
         requires in_range { AreBelow self.old.variables clause.now }

@@ -1,8 +1,8 @@
 -- What a look at one clause, and at the clauses of a list, says of the marks.
-use Rattle.std.specs.Prelude.{◌≡◌, ◌<◌, ◌++◌, ℕ, List, Option, Contains}
+use Rattle.std.specs.Prelude.{◌≡◌, ◌<◌, ◌++◌, ◌⊎◌, ℕ, List, Option, Contains, take}
 use Rattle.clause_meaning.specs.Literals.{variable_of}
 use Rattle.clause_meaning.specs.Refutation.{Reaches}
-use Rattle.clause_meaning.specs.Resting.{RestsUntil}
+use Rattle.clause_meaning.specs.Resting.{RestsUntil, Rests}
 use Rattle.clause_meaning.specs.declared.findings.Finding.{Finding}
 use Rattle.clause_meaning.specs.declared.findings.Finding.TheVariants as finding
 use Rattle.rup_check.specs.Slots.{IsAt, HeldIn}
@@ -23,3 +23,12 @@ pub record GrowsBy (slots : List (Option (List ℕ))) (old new : List ℕ) : Typ
 -- each live clause of the numbers was looked at when the old literals were marked, and what they force is among the new ones
 abbrev pub RestAmong : List (Option (List ℕ)) → List ℕ → List ℕ → List ℕ → Type 0
 RestAmong slots numbers old new = (n : ℕ) (c : List ℕ) → Contains numbers n → IsAt slots n c → RestsUntil (IsMarked old) (IsMarked new) c
+
+-- each live clause has one of the numbers, or rests under the marks
+abbrev pub RestOrListed : List (Option (List ℕ)) → List ℕ → List ℕ → Type 0
+RestOrListed slots numbers marked = (n : ℕ) (c : List ℕ) → IsAt slots n c → Contains numbers n ⊎ Rests (IsMarked marked) c
+
+-- the same, where only the first literals that were marked are true
+abbrev pub RestOrListedFrom : ℕ → List (Option (List ℕ)) → List ℕ → List ℕ → Type 0
+RestOrListedFrom from slots numbers marked =
+    (n : ℕ) (c : List ℕ) → IsAt slots n c → Contains numbers n ⊎ RestsUntil (Contains (take from marked)) (IsMarked marked) c

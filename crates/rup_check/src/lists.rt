@@ -86,8 +86,8 @@ impl Lists {
         ensures others { KeepsOthers number self.old self.new }
     {
         remove_by_literal(&mut self.by_literal, clause, number);
-        self.short.remove(number);
-        self.empty.remove(number);
+        remove_where(&mut self.short, is_short(clause), number);
+        remove_where(&mut self.empty, clause.is_empty(), number);
     }
 }
 
@@ -109,6 +109,15 @@ fn put_where(list: &mut Numbers, wanted: bool, number: usize) -> Result<(), NoMe
     ensures put { OnOk result (IsTrue wanted → Contains list.new number) }
 {
     if wanted { list.push(number) } else { Ok(()) }
+}
+
+/// Takes a number out of a list, where it may stand there.
+fn remove_where(list: &mut Numbers, listed: bool, number: usize)
+    ensures kept { (n : ℕ) → n ≢ number → Contains list.old n → Contains list.new n }
+{
+    if listed {
+        list.remove(number);
+    }
 }
 
 /// Adds a number to the list of each literal.

@@ -1,9 +1,9 @@
 //! Marked literals, in the order of marking, with a mark for each literal beside the list.
 
-ghost use Rattle.std.specs.Prelude.{◌≡◌, ◌↔◌, ◌<◌, ◌≤◌, ◌*◌, ◌⊎◌, ◌++◌, ◌∷◌, [], ℕ, All, Contains, IsTrue, IfOk, length, slice_index_or, vec_len, vec_capacity};
+ghost use Rattle.std.specs.Prelude.{◌≡◌, ◌↔◌, ◌<◌, ◌≤◌, ◌*◌, ◌-◌, ◌⊎◌, ◌++◌, ◌∷◌, [], ℕ, List, All, Contains, IsTrue, IfOk, length, take, slice_index_or, vec_len, vec_capacity};
 ghost use Rattle.std.specs.Bool.{OnTrue, OnFalse};
 ghost use Rattle.clause_meaning.specs.Literals.{AreBelow, opposite_of, variable_of};
-ghost use Rattle.rup_check.specs.Marks.{IsMarked, AreConsistent, HasOpposites};
+ghost use Rattle.rup_check.specs.Marks.{IsMarked, AreConsistent, HaveOpposites};
 ghost use Rattle.clause_meaning.specs.Marks.{HasMark};
 
 use clause_meaning::opposite;
@@ -93,6 +93,16 @@ impl Marks {
         push(&mut self.literals, literal);
     }
 
+    /// Takes the newest mark away, where there is one.
+    fn take_last(&mut self)
+        ensures exact { self.new ≡ record self.old { literals = take (length self.old.literals - 1) self.old.literals } }
+    {
+        match self.literals.pop() {
+            None => {}
+            Some(literal) => self.table[literal as usize] = false,
+        }
+    }
+
     /// Takes all marks away, at the cost of those that there are.
     pub fn clear(&mut self)
         ensures exact { self.new ≡ record self.old { literals = [] } }
@@ -132,6 +142,7 @@ fn mark_once(marks: &mut Marks, literal: u32)
     requires in_range { variable_of literal < marks.old.variables }
 
     ensures same_variables { marks.new.variables ≡ marks.old.variables }
+    ensures more { (later : List ℕ) × (marks.new.literals ≡ marks.old.literals ++ later) }
     ensures marked { (l : ℕ) → IsMarked marks.new.literals l ↔ (IsMarked marks.old.literals l ⊎ (l ≡ literal)) }
 {
     if !marks.has(literal) {
@@ -139,15 +150,26 @@ fn mark_once(marks: &mut Marks, literal: u32)
     }
 }
 
-/// Marks the literals; `false` where two of them are opposite.
+/// Takes away the marks of all literals but the first so many, at their cost.
+pub fn cut(marks: &mut Marks, len: usize)
+    ensures same_variables { marks.new.variables ≡ marks.old.variables }
+    ensures exact { marks.new.literals ≡ take len marks.old.literals }
+{
+    while len < marks.len() {
+        marks.take_last();
+    }
+}
+
+/// Marks the literals after those that are marked; `false` where two of all these are opposite.
 pub fn mark_all(marks: &mut Marks, literals: &[u32]) -> bool
     requires in_range { AreBelow marks.old.variables literals.now }
-    requires none { marks.old.literals ≡ [] }
+    requires consistent { AreConsistent marks.old.literals }
 
     ensures same_variables { marks.new.variables ≡ marks.old.variables }
-    ensures marked { OnTrue result ((l : ℕ) → IsMarked marks.new.literals l ↔ Contains literals.now l) }
+    ensures more { (later : List ℕ) × (marks.new.literals ≡ marks.old.literals ++ later) }
+    ensures marked { OnTrue result ((l : ℕ) → IsMarked marks.new.literals l ↔ (IsMarked marks.old.literals l ⊎ Contains literals.now l)) }
     ensures consistent { OnTrue result (AreConsistent marks.new.literals) }
-    ensures opposites { OnFalse result (HasOpposites literals.now) }
+    ensures opposites { OnFalse result (HaveOpposites marks.old.literals literals.now) }
 {
     for literal in literals {
         if marks.has(opposite(*literal)) {

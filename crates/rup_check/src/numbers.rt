@@ -47,6 +47,13 @@ impl Numbers {
         Ok(())
     }
 
+    /// Takes all numbers away.
+    pub fn clear(&mut self)
+        ensures { self.new ≡ [] }
+    {
+        self.numbers.clear();
+    }
+
     /// Takes a number away.
     pub fn remove(&mut self, number: usize)
         ensures { self.new ≡ filter (λ n. not (n == number)) self.old }

@@ -77,6 +77,42 @@ fn forgotten_clause_is_gone(rt: HostRuntime) -> Result<(), Fail> {
     Ok(())
 }
 
+/// A checker over two variables with the clause of one literal, number 0, and one that then forces the other variable, number 1.
+fn forcing(rt: &impl Abort, alloc: Global) -> Result<Checker, Fail>
+    ensures variables { IfOk result (λ checker. checker.variables ≡ 2) }
+    ensures next { IfOk result (λ checker. checker.next ≡ 2) }
+    ensures live { IfOk result (λ checker. IsLive checker.live 0) }
+{
+    let mut checker = Checker::new(alloc, 2)?;
+    put(rt, &mut checker, 2, &[0], 0)?;
+    put(rt, &mut checker, 2, &[1, 2], 1)?;
+    Ok(checker)
+}
+
+/// What the settled clauses force is known, until one of them is forgotten.
+#[test]
+fn settled_clause_is_forgotten(rt: HostRuntime) -> Result<(), Fail> {
+    let mut checker = forcing(&rt, rt.alloc())?;
+    checker.settle()?;
+    assert!(rt; refutes(&rt, &mut checker, 2, &[3]));
+    assert!(rt; !refutes(&rt, &mut checker, 2, &[2]));
+    checker.forget(0);
+    assert!(rt; !refutes(&rt, &mut checker, 2, &[3]));
+    assert!(rt; refutes(&rt, &mut checker, 2, &[0, 3]));
+    Ok(())
+}
+
+/// A clause that comes after settling clashes with what the settled ones force.
+#[test]
+fn later_clause_is_looked_at(rt: HostRuntime) -> Result<(), Fail> {
+    let mut checker = forcing(&rt, rt.alloc())?;
+    checker.settle()?;
+    assert!(rt; !refutes(&rt, &mut checker, 2, &[]));
+    put(&rt, &mut checker, 2, &[1, 3], 2)?;
+    assert!(rt; refutes(&rt, &mut checker, 2, &[]));
+    Ok(())
+}
+
 /// The next number of a sequence that looks random (Marsaglia 2003).
 fn next(seed: &mut u64) -> u64 {
     *seed = *seed ^ (*seed << 13);
@@ -202,6 +238,17 @@ fn has_within(clauses: &[Vec<u32>], literals: &[u32]) -> bool {
     false
 }
 
+/// Settles the checker, once in three times.
+fn settle_at_times(checker: &mut Checker, seed: &mut u64) -> Result<(), NoMemory>
+    ensures { checker.new ≡ checker.old }
+{
+    if next_below(seed, 3) == 0 {
+        checker.settle()
+    } else {
+        Ok(())
+    }
+}
+
 /// Compares the answers on some literals with those by passes over the clauses.
 fn compare(
     rt: &impl Abort,
@@ -216,6 +263,7 @@ fn compare(
     requires few { variables ≤ 8 }
     ensures { OnOk result (checker.new ≡ checker.old) }
 {
+    settle_at_times(checker, seed)?;
     let literals = some_literals(alloc, variables, seed)?;
     let known = closure(alloc, clauses, variables, &literals)?;
     let clashes = has_false(clauses, &known) || has_opposites(&known);
