@@ -1,184 +1,275 @@
--- The files of a job ask for one end alone.
-use Rattle.std.proofs.Common.{◌≡◌, ◌<◌, ◌≤◌, ◌⊎◌, inl, inr, ℕ, List, length, Option, Some, None, refl, sym, ap, ◌∙◌, subst, arith}
-use Rattle.cqapri_cli.specs.Built.{AreAnswered, AreNotBuilt}
-use Rattle.cqapri_cli.specs.Files.{FileNames, Task, length_of, limit_of, name_of, report_limit}
-use Rattle.cqapri_cli.specs.Inputs.{AreAccepted, Held, Holds, IsAccepted, IsTooLong, Refuses, StopsAt, StopsFiles}
-use Rattle.cqapri_cli.specs.ReportFile.{AreServed, HasReport, StopsReport}
-use Rattle.cqapri_cli.specs.Run.{EndsBy, SaysOfFiles, SaysOfReport}
-use Rattle.cqapri_cli.specs.declared.files.File.{File}
-use Rattle.cqapri_cli.specs.declared.files.File.TheVariants as file
-use Rattle.cqapri_cli.specs.declared.refusal.Refusal.{Refusal}
-use Rattle.cqapri_cli.specs.declared.refusal.Refusal.TheVariants as refusal
-use Rattle.cqapri_cli.specs.declared.report_refusal.ReportRefusal.{ReportRefusal}
-use Rattle.cqapri_cli.specs.declared.report_refusal.ReportRefusal.TheVariants as report_refusal
-use Rattle.cqapri_cli.proofs.LawLemmas.{IsOfContent, ReaderLaws, not_both, same_refusal}
+-- The same words and files ask for one end.
+use Rattle.std.proofs.Common.{◌≡◌, ◌⊎◌, inl, inr, ℕ, zero, suc, List, [], ◌∷◌, length, Option, Some, None, refl, sym, ap, ◌∙◌, subst}
+use Rattle.cq_io.specs.Failing.{Failing}
+use Rattle.cq_terms.specs.Knowledge.{Knowledge}
+use Rattle.cq_terms.specs.Query.{Query}
+use Rattle.cq_terms.specs.declared.facts.Fact.{Fact}
+use Rattle.cq_terms.specs.declared.facts.Repairs.{Repairs}
+use Rattle.cq_terms.specs.declared.names.Vocab.{Vocab}
+use Rattle.cq_meaning.specs.Repairs.{IsAcyclic, IsBetter, LeadsTo}
+use Rattle.priority_graph.specs.Relations.{Chain, IsCycle}
+use Rattle.preparation.specs.Refusals.{IsRefused, IsWithin}
+use Rattle.preparation.specs.declared.limits.Limits.{Limits}
+use Rattle.preparation.specs.declared.refusal.PrepareRefusal.{PrepareRefusal}
+use Rattle.preparation.specs.declared.refusal.PrepareRefusal.TheVariants as prepare
+use Rattle.report_laws.specs.Reports.{TellsCycle}
+use Rattle.refutation_confirmer.specs.Saying.{Says}
+use Rattle.refutation_confirmer.specs.declared.confirmed.Confirmed.{Confirmed}
+use Rattle.refutation_confirmer.specs.declared.confirmed.Confirmed.TheVariants as confirmed
+use Rattle.cqapri_words.specs.Words.{FileNames, Settings}
+use Rattle.cqapri_words.specs.declared.files.File.{File}
+use Rattle.cqapri_words.specs.declared.files.File.TheVariants as file
+use Rattle.cqapri_words.specs.declared.refusal.Refusal.{Refusal}
+use Rattle.cqapri_words.specs.declared.refusal.Refusal.TheVariants as refusal
+use Rattle.input_files.specs.Ends.{IsOf}
+use Rattle.input_files.specs.Fetching.{Held}
+use Rattle.input_files.specs.Inputs.{AreAccepted, IsReportThere}
+use Rattle.input_files.specs.Laws.{FilesSayOneThing, IsOfContent}
+use Rattle.input_files.specs.Laws as files
+use Rattle.input_files.specs.Meaning.{FilesSay, IsFetchedReport}
+use Rattle.cqapri_cli.specs.EndLaws.{AreOneEnd, ClassifyEndIsOne, ConfirmEndIsOne, EachEndIsOne, SaysOfFiles}
+use Rattle.cqapri_cli.specs.Ends.{StopsClassify, StopsConfirm}
+use Rattle.cqapri_cli.specs.Limits.{IsWithinLimits, StopsPreparing, limits_of, refusal_of_preparing}
+use Rattle.cqapri_cli.specs.Reading.{SaySome, StopsFetching, StopsReading}
+use Rattle.cqapri_cli.specs.Verdicts.{IsToConfirm, Judges, TellsCycleOf}
 
--- a file isn't there
-record IsMissing (held : Held) (name : List ℕ) (f : File) (r : Refusal) : Type 0 where
-  missing : held name ≡ None
-  is : r ≡ refusal.NotThere f
+-- ---- a cycle and an acyclic priority
 
--- a file is too long
-record IsLong (held : Held) (name : List ℕ) (f : File) (r : Refusal) : Type 0 where
-  too_long : IsTooLong held name f
-  is : r ≡ refusal.Limit (length_of f)
+-- a chain leads from its beginning to its end
+chain_leads : (kb : Knowledge) (mode : Repairs) (i : ℕ) (list : List ℕ) (end : ℕ) → Chain (IsBetter kb mode) i list end → LeadsTo kb mode (length list) i end
+chain_leads kb mode i [] end c = c
+chain_leads kb mode i (j ∷ list) end c = (j, c.0, chain_leads kb mode j list end c.1)
 
--- a file's reader refuses it
-record IsRefusedText (held : Held) (name : List ℕ) (f : File) (r : Refusal) : Type 0 where
-  text : Holds held name f (λ bytes. Refuses f bytes r)
-  content : IsOfContent r
+pub cycle_not_acyclic : (kb : Knowledge) (mode : Repairs) (facts : List ℕ) → IsCycle (IsBetter kb mode) facts → IsAcyclic kb mode → ⊥
+cycle_not_acyclic kb mode [] w acyclic = w.closed
+cycle_not_acyclic kb mode (i ∷ list) w acyclic = acyclic (length list) i (chain_leads kb mode i list i w.closed)
 
--- how a file stops a job
-abbrev Stop : Held → List ℕ → File → Refusal → Type 0
-Stop held name f r = IsMissing held name f r ⊎ (IsLong held name f r ⊎ IsRefusedText held name f r)
+-- ---- what is refused behind the files
 
-stop_of : (held : Held) (name : List ℕ) (f : File) (r : Refusal) → IsOfContent r → StopsAt held name f r → Stop held name f r
-stop_of held name f (refusal.NotThere g) k (same, missing) = inl (record { missing = missing; is = ap refusal.NotThere same })
-stop_of held name f (refusal.Faulty fault) k s = inr (inr (record { text = s; content = tt }))
-stop_of held name f (refusal.Limit quantity) k (inl (same, long)) = inr (inl (record { too_long = long; is = ap refusal.Limit same }))
-stop_of held name f (refusal.Limit quantity) k (inr s) = inr (inr (record { text = s; content = tt }))
-stop_of held name f (refusal.Report why) k s = absurd k
-stop_of held name f refusal.Words k s = absurd k
-stop_of held name f refusal.NotBuilt k s = absurd k
-stop_of held name f (refusal.ReadFault g) k s = absurd k
-stop_of held name f refusal.WriteFault k s = absurd k
-stop_of held name f refusal.NoMemory k s = absurd k
+module _ (kb : Knowledge) (q : Query) (mode : Repairs) (limits : Limits) (facts : List Fact) (vocab : Vocab) where
+  -- two refusals of what the files say are one
+  one_refusal : (why other : PrepareRefusal) → SaysOfFiles (refusal_of_preparing facts vocab why) → SaysOfFiles (refusal_of_preparing facts vocab other)
+      → IsRefused kb q mode limits why → IsRefused kb q mode limits other
+      → AreOneEnd (refusal_of_preparing facts vocab why) (refusal_of_preparing facts vocab other)
+  one_refusal prepare.NoMemory other s t w v = absurd s
+  one_refusal prepare.Members prepare.NoMemory s t w v = absurd t
+  one_refusal prepare.Members prepare.Members s t w v = inl refl
+  one_refusal prepare.Members prepare.Conflicts s t w v = absurd (v.0 w)
+  one_refusal prepare.Members (prepare.Cycle numbers) s t w v = absurd (v.0 w)
+  one_refusal prepare.Members prepare.Supports s t w v = absurd (v.0 w)
+  one_refusal prepare.Conflicts prepare.NoMemory s t w v = absurd t
+  one_refusal prepare.Conflicts prepare.Members s t w v = absurd (w.0 v)
+  one_refusal prepare.Conflicts prepare.Conflicts s t w v = inl refl
+  one_refusal prepare.Conflicts (prepare.Cycle numbers) s t w v = absurd (v.1 w.1)
+  one_refusal prepare.Conflicts prepare.Supports s t w v = absurd (v.1 w.1)
+  one_refusal (prepare.Cycle numbers) prepare.NoMemory s t w v = absurd t
+  one_refusal (prepare.Cycle numbers) prepare.Members s t w v = absurd (w.0 v)
+  one_refusal (prepare.Cycle numbers) prepare.Conflicts s t w v = absurd (w.1 v.1)
+  one_refusal (prepare.Cycle numbers) (prepare.Cycle others) s t w v = inr (tt, tt)
+  one_refusal (prepare.Cycle numbers) prepare.Supports s t w v = absurd (cycle_not_acyclic kb mode numbers w.2 v.2)
+  one_refusal prepare.Supports prepare.NoMemory s t w v = absurd t
+  one_refusal prepare.Supports prepare.Members s t w v = absurd (w.0 v)
+  one_refusal prepare.Supports prepare.Conflicts s t w v = absurd (w.1 v.1)
+  one_refusal prepare.Supports (prepare.Cycle others) s t w v = absurd (cycle_not_acyclic kb mode others v.2 w.2)
+  one_refusal prepare.Supports prepare.Supports s t w v = inl refl
 
--- a file that isn't there has no bytes
-not_there : (o : Option (List ℕ)) (bytes : List ℕ) → o ≡ None → o ≡ Some bytes → ⊥
-not_there o bytes missing there = let both : None ≡ Some bytes = sym missing ∙ there in cc
+  -- none is of what is within the limits
+  no_refusal : (why : PrepareRefusal) → SaysOfFiles (refusal_of_preparing facts vocab why) → IsRefused kb q mode limits why → IsWithin kb q mode limits → ⊥
+  no_refusal prepare.NoMemory s w within = s
+  no_refusal prepare.Members s w within = within.members w
+  no_refusal prepare.Conflicts s w within = within.clashes w.1
+  no_refusal (prepare.Cycle numbers) s w within = cycle_not_acyclic kb mode numbers w.2 within.acyclic
+  no_refusal prepare.Supports s w within = within.supports w.3
 
--- a file has one text
-one_text : (o : Option (List ℕ)) (bytes others : List ℕ) → o ≡ Some bytes → o ≡ Some others → bytes ≡ others
-one_text o bytes others e d = let both : Some bytes ≡ Some others = sym e ∙ d in cc
+-- ---- which refusals come from files
 
--- a text isn't too long and within the limit
-not_long : (f : File) (bytes others : List ℕ) → bytes ≡ others → limit_of f < length bytes → length others ≤ limit_of f → ⊥
-not_long f bytes others e long short = let long' : limit_of f < length others = subst (λ b. limit_of f < length b) e long in omega arith
+-- a refusal of a file that says something of the files is of its content
+of_content : (f : File) (r : Refusal) → IsOf f r → SaysOfFiles r → IsOfContent r
+of_content f (refusal.NotThere g) o s = tt
+of_content f (refusal.Faulty wrong) o s = tt
+of_content f (refusal.Limit beyond) o s = tt
+of_content f (refusal.Cycle cycle) o s = absurd o
+of_content f refusal.Words o s = absurd s
+of_content f (refusal.ReadFault g) o s = absurd s
+of_content f refusal.WriteFault o s = absurd s
+of_content f refusal.NoMemory o s = absurd s
 
--- what a refusal that says something of the files says: not all of them are answered, or a file stops the job, or the report
--- to confirm does
-record IsNotBuilt (held : Held) (task : Task) (r : Refusal) : Type 0 where
-  says : AreNotBuilt held task.names
-  is : r ≡ refusal.NotBuilt
+-- the laws from which it follows
+pub record Laws : Type 0 where
+  pub reading : FilesSayOneThing
+  pub ends : files.EachEndIsOne
+  pub report : files.EachReportEndIsOne
 
-record IsStopped (held : Held) (task : Task) (r : Refusal) : Type 0 where
-  stop : StopsFiles held task.names r
-  content : IsOfContent r
+module _ (laws : Laws) (held : Held) (names : FileNames) where
+  content : (failing : Option Failing) (r : Refusal) → SaysOfFiles r → StopsReading (Some held) failing names r → IsOfContent r
+  content failing r s w = of_content w.ends.0 r w.ends.1.of_file s
 
-record IsStoppedByReport (held : Held) (task : Task) (r : Refusal) : Type 0 where
-  says : AreAnswered held task.names
-  why : ReportRefusal
-  decides : SaysOfReport why
-  stop : StopsReport held task.report why
-  is : r ≡ refusal.Report why
+  -- two refusals of the files are one
+  files_one : (failing others : Option Failing) (r t : Refusal) → SaysOfFiles r → SaysOfFiles t → StopsReading (Some held) failing names r
+      → StopsReading (Some held) others names t → r ≡ t
+  files_one failing others r t d e w v = laws.ends.one held names r t (content failing r d w) (content others t e v) w.files v.files
 
-abbrev Ended : Held → Task → Refusal → Type 0
-Ended held task r = IsNotBuilt held task r ⊎ (IsStopped held task r ⊎ IsStoppedByReport held task r)
+  -- files that say something ask for none
+  said_ask_none : (failing : Option Failing) (r : Refusal) → SaysOfFiles r → StopsReading (Some held) failing names r
+      → (kb : Knowledge) (q : Query) (vocab : Vocab) → FilesSay (Some held) names kb q vocab → ⊥
+  said_ask_none failing r d w kb q vocab says = laws.ends.none held names r (content failing r d w) w.files (laws.ends.said held names kb q vocab says)
 
-end_of : (held : Held) (task : Task) (r : Refusal) → SaysOfFiles r → EndsBy r held task → Ended held task r
-end_of held task refusal.NotBuilt d e = inl (record { says = e; is = refl })
-end_of held task (refusal.NotThere f) d e = inr (inl (record { stop = e; content = tt }))
-end_of held task (refusal.Faulty fault) d e = inr (inl (record { stop = e; content = tt }))
-end_of held task (refusal.Limit quantity) d e = inr (inl (record { stop = e; content = tt }))
-end_of held task (refusal.Report why) d e = inr (inr (record { says = e.0; why = why; decides = d; stop = e.1; is = refl }))
-end_of held task refusal.Words d e = absurd d
-end_of held task (refusal.ReadFault f) d e = absurd d
-end_of held task refusal.WriteFault d e = absurd d
-end_of held task refusal.NoMemory d e = absurd d
+  -- ---- a classification
 
--- a report isn't too long and within its limit
-not_too_long : (bytes others : List ℕ) → bytes ≡ others → report_limit < length bytes → length others ≤ report_limit → ⊥
-not_too_long bytes others e long short = let long' : report_limit < length others = subst (λ b. report_limit < length b) e long in omega arith
+  module _ (settings : Settings) where
+    -- a limit or a cycle refuses what the files say
+    Refuses : Refusal → Type 0
+    Refuses r = (kb : Knowledge) × (q : Query) × (vocab : Vocab) × FilesSay (Some held) names kb q vocab × StopsPreparing kb q vocab settings r
 
--- two refusals of the report are one
-same_report : (held : Held) (report : Option (List ℕ)) (why other : ReportRefusal) → SaysOfReport why → SaysOfReport other → StopsReport held report why
-    → StopsReport held report other
-    → why ≡ other
-same_report held None why other d f s t = absurd s
-same_report held (Some name) report_refusal.NotThere report_refusal.NotThere d f s t = refl
-same_report held (Some name) report_refusal.NotThere report_refusal.TooLong d f s t = absurd (not_there (held name) t.0 s t.1)
-same_report held (Some name) report_refusal.NotThere report_refusal.ReadFault d f s t = absurd f
-same_report held (Some name) report_refusal.TooLong report_refusal.NotThere d f s t = absurd (not_there (held name) s.0 t s.1)
-same_report held (Some name) report_refusal.TooLong report_refusal.TooLong d f s t = refl
-same_report held (Some name) report_refusal.TooLong report_refusal.ReadFault d f s t = absurd f
-same_report held (Some name) report_refusal.ReadFault other d f s t = absurd d
+    two_refuse : (r t : Refusal) → SaysOfFiles r → SaysOfFiles t → (kb kb' : Knowledge) (q q' : Query) (vocab vocab' : Vocab)
+        → kb ≡ kb' → q ≡ q' → vocab ≡ vocab' → StopsPreparing kb q vocab settings r → StopsPreparing kb' q' vocab' settings t → AreOneEnd r t
+    two_refuse r t d e kb kb' q q' vocab vocab' x y z (why, w, is) (other, v, is') =
+        subst (λ a. AreOneEnd a t) (sym is) (subst (λ b. AreOneEnd (refusal_of_preparing kb.facts vocab why) b) (sym same)
+        (one_refusal kb q settings.repairs (limits_of settings) kb.facts vocab why other (subst SaysOfFiles is d) (subst SaysOfFiles same e) w again))
+      where
+        same : t ≡ refusal_of_preparing kb.facts vocab other
+        same = is' ∙ (ap (λ (k : Knowledge). refusal_of_preparing k.facts vocab' other) (sym x)
+            ∙ ap (λ (n : Vocab). refusal_of_preparing kb.facts n other) (sym z))
 
--- a report that is there, within its limit, doesn't stop a job
-report_stops_not : (held : Held) (report : Option (List ℕ)) → HasReport held report → (why : ReportRefusal) → SaysOfReport why → StopsReport held report why → ⊥
-report_stops_not held None there why d s = s
-report_stops_not held (Some name) there report_refusal.NotThere d s = not_there (held name) there.0 s there.1
-report_stops_not held (Some name) there report_refusal.TooLong d s = not_too_long s.0 there.0 (one_text (held name) s.0 there.0 s.1 there.1) s.2 there.2
-report_stops_not held (Some name) there report_refusal.ReadFault d s = d
+        again : IsRefused kb q settings.repairs (limits_of settings) other
+        again = subst (λ k. IsRefused k q settings.repairs (limits_of settings) other) (sym x)
+            (subst (λ p. IsRefused kb' p settings.repairs (limits_of settings) other) (sym y) v)
 
-module _ (laws : ReaderLaws) (held : Held) where
-  -- two stops at one file are one
-  same_stop : (name : List ℕ) (f : File) (r s : Refusal) → Stop held name f r → Stop held name f s → r ≡ s
-  same_stop name f r s (inl a) (inl b) = a.is ∙ sym b.is
-  same_stop name f r s (inl a) (inr (inl b)) = absurd (not_there (held name) b.too_long.bytes a.missing b.too_long.there)
-  same_stop name f r s (inl a) (inr (inr b)) = absurd (not_there (held name) b.text.bytes a.missing b.text.there)
-  same_stop name f r s (inr (inl a)) (inl b) = absurd (not_there (held name) a.too_long.bytes b.missing a.too_long.there)
-  same_stop name f r s (inr (inl a)) (inr (inl b)) = a.is ∙ sym b.is
-  same_stop name f r s (inr (inl a)) (inr (inr b)) =
-      absurd (not_long f _ _ (one_text (held name) a.too_long.bytes b.text.bytes a.too_long.there b.text.there) a.too_long.long b.text.short)
-  same_stop name f r s (inr (inr a)) (inl b) = absurd (not_there (held name) a.text.bytes b.missing a.text.there)
-  same_stop name f r s (inr (inr a)) (inr (inl b)) =
-      absurd (not_long f _ _ (one_text (held name) b.too_long.bytes a.text.bytes b.too_long.there a.text.there) b.too_long.long a.text.short)
-  same_stop name f r s (inr (inr a)) (inr (inr b)) =
-      let e : b.text.bytes ≡ a.text.bytes = one_text (held name) b.text.bytes a.text.bytes b.text.there a.text.there in
-      same_refusal laws f a.text.bytes r s a.content a.text.has b.content (subst (λ t. Refuses f t s) e b.text.has)
+    not_within : (r : Refusal) → SaysOfFiles r → (kb kb' : Knowledge) (q q' : Query) (vocab : Vocab) → kb ≡ kb' → q ≡ q'
+        → StopsPreparing kb q vocab settings r → IsWithinLimits kb' q' settings → ⊥
+    not_within r d kb kb' q q' vocab x y (why, w, is) within =
+        no_refusal kb q settings.repairs (limits_of settings) kb.facts vocab why (subst SaysOfFiles is d) w
+        (subst (λ k. IsWithinLimits k q settings) (sym x) (subst (λ p. IsWithinLimits kb' p settings) (sym y) within))
 
-  -- an accepted file doesn't stop a job
-  accepted_stops_not : (name : List ℕ) (f : File) → IsAccepted held name f → (r : Refusal) → Stop held name f r → ⊥
-  accepted_stops_not name f good r (inl a) = not_there (held name) good.bytes a.missing good.there
-  accepted_stops_not name f good r (inr (inl a)) = not_long f _ _ (one_text (held name) a.too_long.bytes good.bytes a.too_long.there good.there)
-      a.too_long.long good.short
-  accepted_stops_not name f good r (inr (inr a)) =
-      let e : a.text.bytes ≡ good.bytes = one_text (held name) a.text.bytes good.bytes a.text.there good.there in
-      not_both laws f good.bytes good.has r a.content (subst (λ t. Refuses f t r) e a.text.has)
+    pub classify_one : (failing others : Option Failing) (r t : Refusal) → SaysOfFiles r → SaysOfFiles t
+        → StopsClassify (Some held) failing names settings r → StopsClassify (Some held) others names settings t → AreOneEnd r t
+    classify_one failing others r t d e (inl m) w = absurd (subst SaysOfFiles m d)
+    classify_one failing others r t d e (inr (inr (inr (m, x)))) w = absurd (subst SaysOfFiles m d)
+    classify_one failing others r t d e (inr (inl v)) (inl m) = absurd (subst SaysOfFiles m e)
+    classify_one failing others r t d e (inr (inr (inl v))) (inl m) = absurd (subst SaysOfFiles m e)
+    classify_one failing others r t d e (inr (inl v)) (inr (inr (inr (m, x)))) = absurd (subst SaysOfFiles m e)
+    classify_one failing others r t d e (inr (inr (inl v))) (inr (inr (inr (m, x)))) = absurd (subst SaysOfFiles m e)
+    classify_one failing others r t d e (inr (inl v)) (inr (inl w)) = inl (files_one failing others r t d e v w)
+    classify_one failing others r t d e (inr (inl v)) (inr (inr (inl (kb, q, vocab, says, fetched, w)))) =
+        absurd (said_ask_none failing r d v kb q vocab says)
+    classify_one failing others r t d e (inr (inr (inl (kb, q, vocab, says, fetched, v)))) (inr (inl w)) =
+        absurd (said_ask_none others t e w kb q vocab says)
+    classify_one failing others r t d e (inr (inr (inl (kb, q, vocab, says, fetched, v)))) (inr (inr (inl (kb', q', vocab', says', fetched', w)))) =
+        let same = laws.reading held names kb kb' q q' vocab vocab' says says' in
+        two_refuse r t d e kb kb' q q' vocab vocab' same.0 same.1 same.2 v w
 
-  -- where all files are accepted, each is
-  each_accepted : (names : FileNames) → AreAccepted held names → (f : File) → IsAccepted held (name_of names f) f
-  each_accepted names all file.Ontology = all.0.0
-  each_accepted names all file.Facts = all.0.1
-  each_accepted names all file.Query = all.1
+    pub classify_none : (failing others : Option Failing) (r : Refusal) → SaysOfFiles r → StopsClassify (Some held) failing names settings r
+        → SaySome (Some held) others names (λ kb q vocab. IsWithinLimits kb q settings) → ⊥
+    classify_none failing others r d (inl m) w = subst SaysOfFiles m d
+    classify_none failing others r d (inr (inr (inr (m, x)))) w = subst SaysOfFiles m d
+    classify_none failing others r d (inr (inl v)) (kb, q, vocab, says, fetched, within) = said_ask_none failing r d v kb q vocab says
+    classify_none failing others r d (inr (inr (inl (kb, q, vocab, says, fetched, v)))) (kb', q', vocab', says', fetched', within) =
+        let same = laws.reading held names kb kb' q q' vocab vocab' says says' in
+        not_within r d kb kb' q q' vocab same.0 same.1 v within
 
-  accepted_files : (names : FileNames) → AreAccepted held names → (r : Refusal) → IsOfContent r → StopsFiles held names r → ⊥
-  accepted_files names all r k (f, reached, s) = accepted_stops_not (name_of names f) f (each_accepted names all f) r (stop_of held _ f r k s)
+  -- ---- a confirmation
 
-  -- two refusals of the files are one: that of the first file that isn't accepted
-  same_files : (names : FileNames) (r s : Refusal) → IsOfContent r → IsOfContent s → StopsFiles held names r → StopsFiles held names s → r ≡ s
-  same_files names r s k m (file.Ontology, a, x) (file.Ontology, b, y) =
-      same_stop names.ontology file.Ontology r s (stop_of held _ _ r k x) (stop_of held _ _ s m y)
-  same_files names r s k m (file.Ontology, a, x) (file.Facts, b, y) = absurd (accepted_stops_not names.ontology file.Ontology b r (stop_of held _ _ r k x))
-  same_files names r s k m (file.Ontology, a, x) (file.Query, b, y) = absurd (accepted_stops_not names.ontology file.Ontology b.0 r (stop_of held _ _ r k x))
-  same_files names r s k m (file.Facts, a, x) (file.Ontology, b, y) = absurd (accepted_stops_not names.ontology file.Ontology a s (stop_of held _ _ s m y))
-  same_files names r s k m (file.Facts, a, x) (file.Facts, b, y) = same_stop names.facts file.Facts r s (stop_of held _ _ r k x) (stop_of held _ _ s m y)
-  same_files names r s k m (file.Facts, a, x) (file.Query, b, y) = absurd (accepted_stops_not names.facts file.Facts b.1 r (stop_of held _ _ r k x))
-  same_files names r s k m (file.Query, a, x) (file.Ontology, b, y) = absurd (accepted_stops_not names.ontology file.Ontology a.0 s (stop_of held _ _ s m y))
-  same_files names r s k m (file.Query, a, x) (file.Facts, b, y) = absurd (accepted_stops_not names.facts file.Facts a.1 s (stop_of held _ _ s m y))
-  same_files names r s k m (file.Query, a, x) (file.Query, b, y) = same_stop names.query file.Query r s (stop_of held _ _ r k x) (stop_of held _ _ s m y)
+  module _ (name : List ℕ) where
+    -- a report that was fetched is there
+    is_there : (report : List ℕ) → IsFetchedReport (Some held) name report → IsReportThere held name
+    is_there report w = record { bytes = report; there = w.held; short = w.short; has = tt }
 
-  -- two refusals that say something of the files are one
-  pub same_end : (task : Task) (r : Refusal) → SaysOfFiles r → EndsBy r held task → (s : Refusal) → SaysOfFiles s → EndsBy s held task → r ≡ s
-  same_end task r d e s m f = go (end_of held task r d e) (end_of held task s m f)
-    where
-      go : Ended held task r → Ended held task s → r ≡ s
-      go (inl a) (inl b) = a.is ∙ sym b.is
-      go (inl a) (inr (inl b)) = absurd (accepted_files task.names a.says.accepted s b.content b.stop)
-      go (inl a) (inr (inr b)) = absurd (a.says.not_built b.says.built)
-      go (inr (inl a)) (inl b) = absurd (accepted_files task.names b.says.accepted r a.content a.stop)
-      go (inr (inl a)) (inr (inl b)) = same_files task.names r s a.content b.content a.stop b.stop
-      go (inr (inl a)) (inr (inr b)) = absurd (accepted_files task.names b.says.accepted r a.content a.stop)
-      go (inr (inr a)) (inl b) = absurd (b.says.not_built a.says.built)
-      go (inr (inr a)) (inr (inl b)) = absurd (accepted_files task.names a.says.accepted s b.content b.stop)
-      go (inr (inr a)) (inr (inr b)) = a.is ∙ ap refusal.Report (same_report held task.report a.why b.why a.decides b.decides a.stop b.stop) ∙ sym b.is
+    report_content : (failing : Option Failing) (r : Refusal) → SaysOfFiles r → StopsFetching (Some held) failing names name r → IsOfContent r
+    report_content failing r d w = of_content file.Report r w.of_report d
 
-  -- none says something of a task whose files are all right
-  pub served_ends_not : (task : Task) → AreServed held task → (r : Refusal) → SaysOfFiles r → EndsBy r held task → ⊥
-  served_ends_not task all r d e = go (end_of held task r d e)
-    where
-      go : Ended held task r → ⊥
-      go (inl a) = a.says.not_built all.answered.built
-      go (inr (inl b)) = accepted_files task.names all.answered.accepted r b.content b.stop
-      go (inr (inr b)) = report_stops_not held task.report all.report b.why b.decides b.stop
+    report_asks_none : (failing : Option Failing) (r : Refusal) → SaysOfFiles r → StopsFetching (Some held) failing names name r
+        → (report : List ℕ) → IsFetchedReport (Some held) name report → ⊥
+    report_asks_none failing r d w report there = laws.report.none held name r (report_content failing r d w) w.report (is_there report there)
+
+    -- there is one report
+    one_report : (one other : List ℕ) → IsFetchedReport (Some held) name one → IsFetchedReport (Some held) name other → one ≡ other
+    one_report one other w v = let both : Some one ≡ Some other = sym w.held ∙ v.held in cc
+
+    -- a verdict that is right tells no cycle
+    says_no_cycle : (kb : Knowledge) (texts : List (List ℕ)) (q : Query) (report : List ℕ) (verdict : Confirmed) → Says kb texts q report verdict
+        → TellsCycle kb texts q report → ⊥
+    says_no_cycle kb texts q report (confirmed.Yes answers) w = ((w.yes answers).0 refl).1
+    says_no_cycle kb texts q report (confirmed.No line rule) w = ((w.no line rule).0 refl).1
+
+    same_verdict : (kb : Knowledge) (texts : List (List ℕ)) (q : Query) (report : List ℕ) (one other : Confirmed) → Says kb texts q report one
+        → Says kb texts q report other → one ≡ other
+    same_verdict kb texts q report (confirmed.Yes answers) other w v = sym ((v.yes answers).1 ((w.yes answers).0 refl))
+    same_verdict kb texts q report (confirmed.No line rule) other w v = sym ((v.no line rule).1 ((w.no line rule).0 refl))
+
+    -- what is said of one reading is said of the other
+    moved : (P : Knowledge → List (List ℕ) → Query → List ℕ → Type 0) (kb kb' : Knowledge) (q q' : Query) (vocab vocab' : Vocab) (report report' : List ℕ)
+        → kb ≡ kb' → q ≡ q' → vocab ≡ vocab' → report ≡ report' → P kb' vocab'.inds q' report' → P kb vocab.inds q report
+    moved P kb kb' q q' vocab vocab' report report' x y z u p =
+        subst (λ k. P k vocab.inds q report) (sym x)
+        (subst (λ (n : Vocab). P kb' n.inds q report) (sym z) (subst (λ p. P kb' vocab'.inds p report) (sym y) (subst (P kb' vocab'.inds q') (sym u) p)))
+
+    no_cycle : (failing others : Option Failing) (r : Refusal) (verdict : Confirmed) → TellsCycleOf (Some held) failing names name r
+        → Judges (Some held) others names name verdict → ⊥
+    no_cycle failing others r verdict w v =
+        let same = laws.reading held names w.kb v.kb w.q v.q w.vocab v.vocab w.read.say v.read.say in
+        says_no_cycle w.kb w.vocab.inds w.q w.report verdict
+        (moved (λ kb texts q report. Says kb texts q report verdict) w.kb v.kb w.q v.q w.vocab v.vocab w.report v.report same.0 same.1 same.2
+        (one_report w.report v.report w.read.fetched v.read.fetched) v.right) w.tells.0
+
+    pub confirm_verdict : (failing others : Option Failing) (one other : Confirmed) → Judges (Some held) failing names name one
+        → Judges (Some held) others names name other → one ≡ other
+    confirm_verdict failing others one other w v =
+        let same = laws.reading held names w.kb v.kb w.q v.q w.vocab v.vocab w.read.say v.read.say in
+        same_verdict w.kb w.vocab.inds w.q w.report one other w.right
+        (moved (λ kb texts q report. Says kb texts q report other) w.kb v.kb w.q v.q w.vocab v.vocab w.report v.report same.0 same.1 same.2
+        (one_report w.report v.report w.read.fetched v.read.fetched) v.right)
+
+    -- what a refusal that says something of files and report says: a file is refused, the report is, or it tells a cycle
+    Stop : Option Failing → Refusal → Type 0
+    Stop failing r = StopsReading (Some held) failing names r
+        ⊎ ((StopsFetching (Some held) failing names name r × SaySome (Some held) failing names (λ kb q vocab. Unit {0}))
+        ⊎ TellsCycleOf (Some held) failing names name r)
+
+    stop_of : (failing : Option Failing) (r : Refusal) → SaysOfFiles r → StopsConfirm (Some held) failing names name r → Stop failing r
+    unfolding Stop
+    stop_of failing r d (inl m) = absurd (subst SaysOfFiles m d)
+    stop_of failing r d (inr (inl w)) = inl w
+    stop_of failing r d (inr (inr (inl w))) = inr (inl w)
+    stop_of failing r d (inr (inr (inr (inl w)))) = inr (inr w)
+    stop_of failing r d (inr (inr (inr (inr (m, verdict, w))))) = absurd (subst SaysOfFiles m d)
+
+    one_stop : (failing others : Option Failing) (r t : Refusal) → SaysOfFiles r → SaysOfFiles t → Stop failing r → Stop others t → AreOneEnd r t
+    unfolding Stop
+    one_stop failing others r t d e (inl w) (inl v) = inl (files_one failing others r t d e w v)
+    one_stop failing others r t d e (inl w) (inr (inl (v, (kb, q, vocab, says, fetched, more)))) = absurd (said_ask_none failing r d w kb q vocab says)
+    one_stop failing others r t d e (inl w) (inr (inr v)) = absurd (said_ask_none failing r d w v.kb v.q v.vocab v.read.say)
+    one_stop failing others r t d e (inr (inl (w, (kb, q, vocab, says, fetched, more)))) (inl v) = absurd (said_ask_none others t e v kb q vocab says)
+    one_stop failing others r t d e (inr (inl (w, x))) (inr (inl (v, y))) =
+        inl (laws.report.one held name r t (report_content failing r d w) (report_content others t e v) w.report v.report)
+    one_stop failing others r t d e (inr (inl (w, x))) (inr (inr v)) = absurd (report_asks_none failing r d w v.report v.read.fetched)
+    one_stop failing others r t d e (inr (inr w)) (inl v) = absurd (said_ask_none others t e v w.kb w.q w.vocab w.read.say)
+    one_stop failing others r t d e (inr (inr w)) (inr (inl (v, y))) = absurd (report_asks_none others t e v w.report w.read.fetched)
+    one_stop failing others r t d e (inr (inr w)) (inr (inr v)) = subst (λ a. AreOneEnd a t) (sym w.is_cycle) (subst (AreOneEnd _) (sym v.is_cycle) (inr (tt, tt)))
+
+    no_stop : (failing others : Option Failing) (r : Refusal) (verdict : Confirmed) → SaysOfFiles r → Stop failing r
+        → Judges (Some held) others names name verdict → ⊥
+    unfolding Stop
+    no_stop failing others r verdict d (inl w) v = said_ask_none failing r d w v.kb v.q v.vocab v.read.say
+    no_stop failing others r verdict d (inr (inl (w, x))) v = report_asks_none failing r d w v.report v.read.fetched
+    no_stop failing others r verdict d (inr (inr w)) v = no_cycle failing others r verdict w v
+
+    pub confirm_one : (failing others : Option Failing) (r t : Refusal) → SaysOfFiles r → SaysOfFiles t
+        → StopsConfirm (Some held) failing names name r → StopsConfirm (Some held) others names name t → AreOneEnd r t
+    confirm_one failing others r t d e w v = one_stop failing others r t d e (stop_of failing r d w) (stop_of others t e v)
+
+    pub confirm_none : (failing others : Option Failing) (r : Refusal) (verdict : Confirmed) → SaysOfFiles r
+        → StopsConfirm (Some held) failing names name r → Judges (Some held) others names name verdict → ⊥
+    confirm_none failing others r verdict d w v = no_stop failing others r verdict d (stop_of failing r d w) v
+
+pub each_end_is_one : Laws → EachEndIsOne
+each_end_is_one laws = record {
+  classify = λ held names settings. record {
+    one = classify_one laws held names settings;
+    none = classify_none laws held names settings;
+  };
+  confirm = λ held names name. record {
+    one = confirm_one laws held names name;
+    none = confirm_none laws held names name;
+    verdict = confirm_verdict laws held names name;
+  };
+}

@@ -1,302 +1,321 @@
--- How a job ends: by its words, by a file, by the output, or with all answers.
-use Rattle.std.proofs.Common.{◌≡◌, ◌≢◌, ◌⊎◌, inl, inr, ℕ, List, Option, Some, None, IfSome, Result, Ok, Err, IfErr, true, false, ◌∷◌, ◌++◌, refl, sym, ap}
-use Rattle.std.proofs.Common.{◌∙◌, subst}
-use Rattle.std.specs.List.{AllZip}
-use Rattle.std.specs.Result.{IsErrAnd}
+-- How the run ends: its status, its text and what it has written.
+use Rattle.std.proofs.Common.{◌≡◌, ◌↔◌, ◌⊎◌, inl, inr, ℕ, List, Option, Some, None, IfSome, Bool, true, false, true≢false, refl, sym, ap, ◌∙◌, subst}
+use Rattle.std.specs.Prelude.{◌≢◌}
+use Rattle.cq_io.specs.Failing.{Failing}
+use Rattle.cq_io.specs.Faults.{Rose, TellsFault}
 use Rattle.cq_terms.specs.Knowledge.{Knowledge}
 use Rattle.cq_terms.specs.Query.{Query}
+use Rattle.cq_terms.specs.declared.facts.Fact.{Fact}
 use Rattle.cq_terms.specs.declared.names.Vocab.{Vocab}
-use Rattle.cq_io.specs.Faults.{Rose, TellsFault}
-use Rattle.cq_meaning.specs.Candidates.{concept_query}
-use Rattle.report_text.specs.Reports.{has_failed}
-use Rattle.report_text.specs.declared.line.Line.{Line}
-use Rattle.report_text.specs.declared.report.LineFault.{LineFault}
-use Rattle.report_text.specs.declared.report.LineFault.TheVariants as line_fault
-use Rattle.concept_answers.specs.Answers.{AreAnswers, HasConflicts}
-use Rattle.cqapri_cli.specs.Built.{IsAnswered}
-use Rattle.cqapri_cli.specs.Files.{FileNames, Task, AreWords, file_words, job_word, report_words}
-use Rattle.cqapri_cli.specs.Inputs.{Held, StopsFiles, IsOfFiles, is_read_fault}
-use Rattle.cqapri_cli.specs.LineWriting.{StopsBy}
-use Rattle.cqapri_cli.specs.Meaning.{FilesSay}
-use Rattle.cqapri_cli.specs.Refusals.{status_of, refusal_of_lines}
-use Rattle.cqapri_cli.specs.ReportFile.{AreServed}
-use Rattle.cqapri_cli.specs.ReportLines.{report_lines}
-use Rattle.cqapri_cli.specs.Run.{EndsBy, EndsServed, EndsWith, Explains, Leaves, IsComplete, IsExact, IsServedBy, NameFiles, Reports, SaysOfFiles}
-use Rattle.cqapri_cli.specs.Run.{is_read_status, is_write_fault}
-use Rattle.cqapri_cli.specs.declared.refusal.Refusal.{Refusal}
-use Rattle.cqapri_cli.specs.declared.refusal.Refusal.TheVariants as refusal
-use Rattle.cqapri_cli.specs.declared.report_refusal.ReportRefusal.TheVariants as report_refusal
-use Rattle.cqapri_cli.specs.declared.status.Status.{Status}
-use Rattle.cqapri_cli.specs.declared.status.Status.TheVariants as status
-use Rattle.concept_answers.specs.declared.verdicts.Answer.{Answer}
-use Rattle.cqapri_cli.proofs.EndLemmas.{same_end, served_ends_not}
-use Rattle.cqapri_cli.proofs.LawLemmas.{ReaderLaws}
+use Rattle.preparation.specs.declared.refusal.PrepareRefusal.{PrepareRefusal}
+use Rattle.preparation.specs.declared.refusal.PrepareRefusal.TheVariants as prepare
+use Rattle.refutation_confirmer.specs.declared.confirmed.Confirmed.{Confirmed}
+use Rattle.cqapri_words.specs.Refusals.{status_of}
+use Rattle.cqapri_words.specs.Words.{AreClassifyWords, AreConfirmWords, FileNames, HaveOneMeaning, NameNothing, Settings}
+use Rattle.cqapri_words.specs.declared.files.File.{File}
+use Rattle.cqapri_words.specs.declared.refusal.Refusal.{Refusal}
+use Rattle.cqapri_words.specs.declared.refusal.Refusal.TheVariants as refusal
+use Rattle.cqapri_words.specs.declared.status.Status.{Status}
+use Rattle.cqapri_words.specs.declared.status.Status.TheVariants as status
+use Rattle.input_files.specs.Ends.{IsOf}
+use Rattle.input_files.specs.Fetching.{Held, is_fault}
+use Rattle.cqapri_cli.specs.Complete.{IsComplete, IsExactClassify, IsExactConfirm}
+use Rattle.cqapri_cli.specs.EndLaws.{AreOneEnd, EachEndIsOne, NamesCycle, SaysOfFiles}
+use Rattle.cqapri_cli.specs.Ends.{Explains, IsEnd, NameSome, StopsClassify, StopsConfirm, WritesNothing, is_of_output, is_read_status, is_write_status}
+use Rattle.cqapri_cli.specs.Headline.{Answers}
+use Rattle.cqapri_cli.specs.Leaving.{LeavesClassify, LeavesConfirm}
+use Rattle.cqapri_cli.specs.Limits.{refusal_of_preparing}
+use Rattle.cqapri_cli.specs.Parts.{WritesNoneOrPart, WritesPart}
+use Rattle.cqapri_cli.specs.Verdicts.{WritesFirstOfVerdict, WritesVerdict, verdict_status}
+use Rattle.cqapri_cli.proofs.JobLemmas.{not_classify, not_confirm, of_classify, of_confirm, some_not_nothing}
 
--- a refusal of the files explains the end
-pub explains_files : (holds : Option Held) (words : List (List ℕ)) (task : Task) → AreWords words task → (r : Refusal) → IsOfFiles r
-    → IfSome holds (λ held. StopsFiles held task.names r) → Explains holds words r
-explains_files holds words task w refusal.Words k s = absurd k
-explains_files holds words task w refusal.WriteFault k s = absurd k
-explains_files holds words task w refusal.NotBuilt k s = absurd k
-explains_files holds words task w (refusal.Report why) k s = absurd k
-explains_files holds words task w refusal.NoMemory k s = (task, w, memory holds)
-  where
-    memory : (o : Option Held) → IfSome o (λ held. EndsBy refusal.NoMemory held task)
-    memory None = tt
-    memory (Some held) = tt
-explains_files holds words task w (refusal.NotThere f) k s = (task, w, s)
-explains_files holds words task w (refusal.Faulty fault) k s = (task, w, s)
-explains_files holds words task w (refusal.Limit quantity) k s = (task, w, s)
-explains_files holds words task w (refusal.ReadFault f) k s = (task, w, s)
+-- ---- statuses
 
--- and leaves the output as it was
-pub leaves_files : (holds : Option Held) (words : List (List ℕ)) (old new : Option (List ℕ)) (r : Refusal) → IsOfFiles r → new ≡ old
-    → Leaves holds words old new r
-leaves_files holds words old new refusal.Words k e = absurd k
-leaves_files holds words old new refusal.WriteFault k e = absurd k
-leaves_files holds words old new refusal.NotBuilt k e = absurd k
-leaves_files holds words old new (refusal.Report why) k e = absurd k
-leaves_files holds words old new refusal.NoMemory k e = inl e
-leaves_files holds words old new (refusal.NotThere f) k e = e
-leaves_files holds words old new (refusal.Faulty fault) k e = e
-leaves_files holds words old new (refusal.Limit quantity) k e = e
-leaves_files holds words old new (refusal.ReadFault f) k e = e
+-- a refusal ends with no status of an end
+pub never_end : (r : Refusal) → IsEnd (status_of r) → ⊥
+never_end refusal.Words (inl e) = absurd (let both = e in cc)
+never_end refusal.Words (inr e) = absurd (let both = e in cc)
+never_end (refusal.NotThere f) (inl e) = absurd (let both = e in cc)
+never_end (refusal.NotThere f) (inr e) = absurd (let both = e in cc)
+never_end (refusal.Faulty wrong) (inl e) = absurd (let both = e in cc)
+never_end (refusal.Faulty wrong) (inr e) = absurd (let both = e in cc)
+never_end (refusal.Limit beyond) (inl e) = absurd (let both = e in cc)
+never_end (refusal.Limit beyond) (inr e) = absurd (let both = e in cc)
+never_end (refusal.Cycle cycle) (inl e) = absurd (let both = e in cc)
+never_end (refusal.Cycle cycle) (inr e) = absurd (let both = e in cc)
+never_end (refusal.ReadFault f) (inl e) = absurd (let both = e in cc)
+never_end (refusal.ReadFault f) (inr e) = absurd (let both = e in cc)
+never_end refusal.WriteFault (inl e) = absurd (let both = e in cc)
+never_end refusal.WriteFault (inr e) = absurd (let both = e in cc)
+never_end refusal.NoMemory (inl e) = absurd (let both = e in cc)
+never_end refusal.NoMemory (inr e) = absurd (let both = e in cc)
 
--- a report that was not written whole explains the end
-pub explains_lines : (holds : Option Held) (words : List (List ℕ)) (task : Task) → AreWords words task → IfSome holds (λ held. AreServed held task)
-    → (e : LineFault) → Explains holds words (refusal_of_lines e)
-explains_lines holds words task w all line_fault.Failed = (task, w, all)
-explains_lines holds words task w all line_fault.NoMemory = (task, w, any holds)
-  where
-    any : (o : Option Held) → IfSome o (λ held. EndsBy refusal.NoMemory held task)
-    any None = tt
-    any (Some held) = tt
+-- an end is none of these
+pub end_not : (s t : Status) → IsEnd s → t ≢ status.Done → t ≢ status.Open → s ≡ t → ⊥
+end_not s t (inl e) d o same = d (sym same ∙ e)
+end_not s t (inr e) d o same = o (sym same ∙ e)
 
--- and leaves a part of it
-pub leaves_lines : (holds : Option Held) (words : List (List ℕ)) (old new : Option (List ℕ)) (lines : List Line) → Reports holds words lines → (e : LineFault)
-    → StopsBy e old new lines → Leaves holds words old new (refusal_of_lines e)
-leaves_lines holds words old new lines reports line_fault.Failed w = inl (lines, reports, w)
-leaves_lines holds words old new lines reports line_fault.NoMemory w = inr (lines, reports, w)
+-- and counts no fault
+pub end_no_fault : (s : Status) → IsEnd s → (is_read_status s ≡ false) × (is_write_status s ≡ false)
+end_no_fault s (inl e) = (ap is_read_status e, ap is_write_status e)
+end_no_fault s (inr e) = (ap is_read_status e, ap is_write_status e)
 
--- its fault is one of the output alone
-pub lines_write_fault : {T : Type 0} (r : Result T Refusal) (e : LineFault) (before now : ℕ) → IsErrAnd r (λ x. x ≡ refusal_of_lines e)
-    → TellsFault before now (has_failed {T = Unit {0}} (Err e)) → TellsFault before now (is_write_fault r)
-lines_write_fault (Ok x) e before now h w = absurd h
-lines_write_fault (Err x) line_fault.Failed before now h w = subst (λ y. TellsFault before now (is_write_fault {T = Unit {0}} (Err y))) (sym h) w
-lines_write_fault (Err x) line_fault.NoMemory before now h w = subst (λ y. TellsFault before now (is_write_fault {T = Unit {0}} (Err y))) (sym h) w
+pub end_writes : {P : Type 0} (s : Status) → IsEnd s → WritesNothing s → P
+end_writes s (inl e) n = absurd (n.0 e)
+end_writes s (inr e) n = absurd (n.1 e)
 
-pub lines_read_fault : {T : Type 0} (r : Result T Refusal) (e : LineFault) → IsErrAnd r (λ x. x ≡ refusal_of_lines e) → is_read_fault r ≡ false
-lines_read_fault (Ok x) e h = absurd h
-lines_read_fault (Err x) line_fault.Failed h = ap (λ y. is_read_fault {T = Unit {0}} (Err y)) h
-lines_read_fault (Err x) line_fault.NoMemory h = ap (λ y. is_read_fault {T = Unit {0}} (Err y)) h
+-- the statuses of faults are those of the refusals that are faults
+pub read_status : (r : Refusal) → is_read_status (status_of r) ≡ is_fault r
+read_status refusal.Words = refl
+read_status (refusal.NotThere f) = refl
+read_status (refusal.Faulty wrong) = refl
+read_status (refusal.Limit beyond) = refl
+read_status (refusal.Cycle cycle) = refl
+read_status (refusal.ReadFault f) = refl
+read_status refusal.WriteFault = refl
+read_status refusal.NoMemory = refl
 
--- want of memory is no fault
-pub memory_read_fault : {T : Type 0} (r : Result T Refusal) → IsErrAnd r (λ x. x ≡ refusal.NoMemory) → is_read_fault r ≡ false
-memory_read_fault (Ok x) h = absurd h
-memory_read_fault (Err x) h = ap (λ y. is_read_fault {T = Unit {0}} (Err y)) h
+pub write_status : (r : Refusal) → is_write_status (status_of r) ≡ is_of_output r
+write_status refusal.Words = refl
+write_status (refusal.NotThere f) = refl
+write_status (refusal.Faulty wrong) = refl
+write_status (refusal.Limit beyond) = refl
+write_status (refusal.Cycle cycle) = refl
+write_status (refusal.ReadFault f) = refl
+write_status refusal.WriteFault = refl
+write_status refusal.NoMemory = refl
 
-pub memory_write_fault : {T : Type 0} (r : Result T Refusal) → IsErrAnd r (λ x. x ≡ refusal.NoMemory) → is_write_fault r ≡ false
-memory_write_fault (Ok x) h = absurd h
-memory_write_fault (Err x) h = ap (λ y. is_write_fault {T = Unit {0}} (Err y)) h
+-- only the words end with their status
+words_of_status : (r : Refusal) → status_of r ≡ status.Words → r ≡ refusal.Words
+words_of_status refusal.Words e = refl
+words_of_status (refusal.NotThere f) e = absurd (let both = e in cc)
+words_of_status (refusal.Faulty wrong) e = absurd (let both = e in cc)
+words_of_status (refusal.Limit beyond) e = absurd (let both = e in cc)
+words_of_status (refusal.Cycle cycle) e = absurd (let both = e in cc)
+words_of_status (refusal.ReadFault f) e = absurd (let both = e in cc)
+words_of_status refusal.WriteFault e = absurd (let both = e in cc)
+words_of_status refusal.NoMemory e = absurd (let both = e in cc)
 
--- the task of `classify`
-abbrev pub classifies : FileNames → Task
-classifies names = record { names = names; report = None }
+cycle_status : (r : Refusal) → NamesCycle r → status_of r ≡ status.Refused
+cycle_status (refusal.Cycle cycle) n = refl
+cycle_status refusal.Words n = absurd n
+cycle_status (refusal.NotThere f) n = absurd n
+cycle_status (refusal.Faulty wrong) n = absurd n
+cycle_status (refusal.Limit beyond) n = absurd n
+cycle_status (refusal.ReadFault f) n = absurd n
+cycle_status refusal.WriteFault n = absurd n
+cycle_status refusal.NoMemory n = absurd n
 
--- the report of what the files say
-reports : (holds : Option Held) (words : List (List ℕ)) (names : FileNames) → AreWords words (classifies names)
-    → (kb : Knowledge) (concept : ℕ) (vocab : Vocab) → FilesSay holds names kb (concept_query concept) vocab
-    → (answers : List Answer) (conflicts : List (List ℕ)) → AreAnswers kb (concept_query concept) answers → AllZip (HasConflicts kb) answers conflicts
-    → Reports holds words (report_lines kb vocab.inds answers conflicts)
-reports holds words names w kb concept vocab say answers conflicts right cores = record {
-  task = classifies names;
-  are_words = w;
-  is_classify = refl;
-  kb = kb;
-  concept = concept;
-  vocab = vocab;
-  say = say;
-  answers = answers;
-  conflicts = conflicts;
-  right = right;
-  cores = cores;
-  are_lines = refl;
-}
+same_status : (r s : Refusal) → AreOneEnd r s → status_of r ≡ status_of s
+same_status r s (inl e) = ap status_of e
+same_status r s (inr (a, b)) = cycle_status r a ∙ sym (cycle_status s b)
 
--- the same, where the query is for the concept
-pub reports_of : (holds : Option Held) (words : List (List ℕ)) (names : FileNames) → AreWords words (classifies names)
-    → (kb : Knowledge) (query : Query) (concept : ℕ) (vocab : Vocab) → FilesSay holds names kb query vocab
-    → IsAnswered kb query concept → (answers : List Answer) (conflicts : List (List ℕ)) → AreAnswers kb (concept_query concept) answers
-    → AllZip (HasConflicts kb) answers conflicts → Reports holds words (report_lines kb vocab.inds answers conflicts)
-reports_of holds words names w kb query concept vocab say is answers conflicts right cores =
-    reports holds words names w kb concept vocab (subst (λ (q : Query). FilesSay holds names kb q vocab) is.is_query say) answers conflicts right cores
+-- ---- no job ends by its words
 
--- it is no fault of the output
-pub no_write_fault : {T : Type 0} (r : Result T Refusal) → IfErr r IsOfFiles → is_write_fault r ≡ false
-no_write_fault (Ok x) k = refl
-no_write_fault (Err refusal.Words) k = absurd k
-no_write_fault (Err refusal.WriteFault) k = absurd k
-no_write_fault (Err refusal.NotBuilt) k = absurd k
-no_write_fault (Err (refusal.Report why)) k = absurd k
-no_write_fault (Err refusal.NoMemory) k = refl
-no_write_fault (Err (refusal.NotThere f)) k = refl
-no_write_fault (Err (refusal.Faulty fault)) k = refl
-no_write_fault (Err (refusal.Limit quantity)) k = refl
-no_write_fault (Err (refusal.ReadFault f)) k = refl
+file_not_words : (f : File) (r : Refusal) → IsOf f r → r ≡ refusal.Words → ⊥
+file_not_words f r o e = subst (IsOf f) e o
 
--- where memory ran out after the files were read
-pub explains_memory : (holds : Option Held) (words : List (List ℕ)) (task : Task) → AreWords words task → Explains holds words refusal.NoMemory
-explains_memory holds words task w = (task, w, any holds)
-  where
-    any : (o : Option Held) → IfSome o (λ held. EndsBy refusal.NoMemory held task)
-    any None = tt
-    any (Some held) = tt
+preparing_not_words : (facts : List Fact) (vocab : Vocab) (why : PrepareRefusal) → refusal_of_preparing facts vocab why ≡ refusal.Words → ⊥
+preparing_not_words facts vocab prepare.Members e = absurd (let both = e in cc)
+preparing_not_words facts vocab prepare.Conflicts e = absurd (let both = e in cc)
+preparing_not_words facts vocab (prepare.Cycle numbers) e = absurd (let both = e in cc)
+preparing_not_words facts vocab prepare.Supports e = absurd (let both = e in cc)
+preparing_not_words facts vocab prepare.NoMemory e = absurd (let both = e in cc)
 
--- what a refusal explains, a status explains
-with_status : (o : Option Held) (task : Task) (r : Refusal) (ends : Status) → status_of r ≡ ends → IfSome o (λ held. EndsBy r held task)
-    → IfSome o (λ held. EndsWith ends held task)
-with_status None task r ends is e = tt
-with_status (Some held) task r ends is e = (r, is, e)
+classify_not_words : (holds : Option Held) (failing : Option Failing) (names : FileNames) (settings : Settings) (r : Refusal)
+    → StopsClassify holds failing names settings r → r ≡ refusal.Words → ⊥
+classify_not_words holds failing names settings r (inl m) e = let both = sym m ∙ e in absurd (cc)
+classify_not_words holds failing names settings r (inr (inl w)) e = file_not_words w.ends.0 r w.ends.1.of_file e
+classify_not_words holds failing names settings r (inr (inr (inl (kb, q, vocab, says, fetched, (why, w, is))))) e =
+    preparing_not_words kb.facts vocab why (sym is ∙ e)
+classify_not_words holds failing names settings r (inr (inr (inr (m, w)))) e = let both = sym m ∙ e in absurd (cc)
 
-pub named_end : (holds : Option Held) (words : List (List ℕ)) (r : Refusal) (ends : Status) → status_of r ≡ ends → ends ≢ status.Words
-    → Explains holds words r → NameFiles holds words (EndsWith ends)
-named_end holds words refusal.Words ends is not_words e = absurd (not_words (sym is))
-named_end holds words (refusal.NotThere f) ends is not_words (names, w, e) = (names, w, with_status holds names (refusal.NotThere f) ends is e)
-named_end holds words (refusal.Faulty fault) ends is not_words (names, w, e) = (names, w, with_status holds names (refusal.Faulty fault) ends is e)
-named_end holds words (refusal.Limit quantity) ends is not_words (names, w, e) = (names, w, with_status holds names (refusal.Limit quantity) ends is e)
-named_end holds words (refusal.Report why) ends is not_words (names, w, e) = (names, w, with_status holds names (refusal.Report why) ends is e)
-named_end holds words refusal.NotBuilt ends is not_words (names, w, e) = (names, w, with_status holds names refusal.NotBuilt ends is e)
-named_end holds words (refusal.ReadFault f) ends is not_words (names, w, e) = (names, w, with_status holds names (refusal.ReadFault f) ends is e)
-named_end holds words refusal.WriteFault ends is not_words (names, w, e) = (names, w, with_status holds names refusal.WriteFault ends is e)
-named_end holds words refusal.NoMemory ends is not_words (names, w, e) = (names, w, with_status holds names refusal.NoMemory ends is e)
+confirm_not_words : (holds : Option Held) (failing : Option Failing) (names : FileNames) (name : List ℕ) (r : Refusal)
+    → StopsConfirm holds failing names name r → r ≡ refusal.Words → ⊥
+confirm_not_words holds failing names name r (inl m) e = let both = sym m ∙ e in absurd (cc)
+confirm_not_words holds failing names name r (inr (inl w)) e = file_not_words w.ends.0 r w.ends.1.of_file e
+confirm_not_words holds failing names name r (inr (inr (inl (w, x)))) e = subst (IsOf _) e w.of_report
+confirm_not_words holds failing names name r (inr (inr (inr (inl w)))) e = let both = sym w.is_cycle ∙ e in absurd (cc)
+confirm_not_words holds failing names name r (inr (inr (inr (inr (m, verdict, x))))) e = let both = sym m ∙ e in absurd (cc)
 
--- a task, from its parts
-abbrev task_from : List ℕ → List ℕ → List ℕ → Option (List ℕ) → Task
-task_from a b c r = record { names = record { ontology = a; facts = b; query = c }; report = r }
+module _ (holds : Option Held) (failing : Option Failing) (words : List (List ℕ)) where
+  -- the status is that of the words exactly where they ask for nothing
+  pub words_refused : (r : Refusal) → Explains holds failing words r → (status_of r ≡ status.Words) ↔ NameNothing words
+  words_refused r (inl (e, nothing)) = ((λ _. nothing), (λ _. ap status_of e))
+  words_refused r (inr (inl (names, settings, w, stops))) = (
+    (λ s. absurd (classify_not_words holds failing names settings r stops (words_of_status r s))),
+    (λ nothing. absurd (nothing.0 names settings w)),
+  )
+  words_refused r (inr (inr (names, name, w, stops))) = (
+    (λ s. absurd (confirm_not_words holds failing names name r stops (words_of_status r s))),
+    (λ nothing. absurd (nothing.1 names name w)),
+  )
 
--- the words of one task are of no other
-one_from : (a b c a' b' c' : List ℕ) (r r' : Option (List ℕ))
-    → AreWords (job_word r ∷ (file_words (task_from a b c r).names ++ report_words r)) (task_from a' b' c' r') → task_from a b c r ≡ task_from a' b' c' r'
-one_from a b c a' b' c' None None same = cc
-one_from a b c a' b' c' None (Some r') same = absurd (cc)
-one_from a b c a' b' c' (Some r) None same = absurd (cc)
-one_from a b c a' b' c' (Some r) (Some r') same = cc
+-- an end is none of the words
+pub words_accepted : (words : List (List ℕ)) (s : Status) → IsEnd s → NameSome words → (s ≡ status.Words) ↔ NameNothing words
+words_accepted words s end some = (
+  (λ e. absurd (end_not s status.Words end (λ d. let both = d in absurd (cc)) (λ d. let both = d in absurd (cc)) e)),
+  (λ nothing. some_not_nothing words some nothing),
+)
 
--- the task in right words is one
-one_task : (words : List (List ℕ)) (task other : Task) → AreWords words task → AreWords words other → task ≡ other
-one_task words task other w v =
-    one_from task.names.ontology task.names.facts task.names.query other.names.ontology other.names.facts other.names.query task.report other.report (sym w ∙ v)
+-- ---- what is written
 
--- a refusal with the status of a refused file, or of a limit, says something of the files
-refused_decides : (r : Refusal) → status_of r ≡ status.Refused → SaysOfFiles r
-refused_decides refusal.Words e = absurd (cc)
-refused_decides (refusal.NotThere f) e = tt
-refused_decides (refusal.Faulty fault) e = tt
-refused_decides (refusal.Limit quantity) e = tt
-refused_decides (refusal.Report report_refusal.NotThere) e = tt
-refused_decides (refusal.Report report_refusal.TooLong) e = tt
-refused_decides (refusal.Report report_refusal.ReadFault) e = absurd (cc)
-refused_decides refusal.NotBuilt e = tt
-refused_decides (refusal.ReadFault f) e = absurd (cc)
-refused_decides refusal.WriteFault e = absurd (cc)
-refused_decides refusal.NoMemory e = absurd (cc)
+module _ (holds : Option Held) (failing : Option Failing) (old new : Option (List ℕ)) where
+  module _ (names : FileNames) (settings : Settings) where
+    pub part_of : (r : Refusal) → status_of r ≡ status.WriteFault → LeavesClassify holds failing names settings old new r
+        → WritesPart holds failing names settings old new
+    part_of refusal.WriteFault e w = w
+    part_of refusal.Words e w = absurd (let both = e in cc)
+    part_of (refusal.NotThere f) e w = absurd (let both = e in cc)
+    part_of (refusal.Faulty wrong) e w = absurd (let both = e in cc)
+    part_of (refusal.Limit beyond) e w = absurd (let both = e in cc)
+    part_of (refusal.Cycle cycle) e w = absurd (let both = e in cc)
+    part_of (refusal.ReadFault f) e w = absurd (let both = e in cc)
+    part_of refusal.NoMemory e w = absurd (let both = e in cc)
 
-limited_decides : (r : Refusal) → status_of r ≡ status.Limit → SaysOfFiles r
-limited_decides refusal.Words e = absurd (cc)
-limited_decides (refusal.NotThere f) e = tt
-limited_decides (refusal.Faulty fault) e = tt
-limited_decides (refusal.Limit quantity) e = tt
-limited_decides (refusal.Report report_refusal.NotThere) e = tt
-limited_decides (refusal.Report report_refusal.TooLong) e = tt
-limited_decides (refusal.Report report_refusal.ReadFault) e = absurd (cc)
-limited_decides refusal.NotBuilt e = tt
-limited_decides (refusal.ReadFault f) e = absurd (cc)
-limited_decides refusal.WriteFault e = absurd (cc)
-limited_decides refusal.NoMemory e = absurd (cc)
+    pub none_or_part : (r : Refusal) → status_of r ≡ status.NoMemory → LeavesClassify holds failing names settings old new r
+        → WritesNoneOrPart holds failing names settings old new
+    none_or_part refusal.NoMemory e w = w
+    none_or_part refusal.Words e w = absurd (let both = e in cc)
+    none_or_part (refusal.NotThere f) e w = absurd (let both = e in cc)
+    none_or_part (refusal.Faulty wrong) e w = absurd (let both = e in cc)
+    none_or_part (refusal.Limit beyond) e w = absurd (let both = e in cc)
+    none_or_part (refusal.Cycle cycle) e w = absurd (let both = e in cc)
+    none_or_part (refusal.ReadFault f) e w = absurd (let both = e in cc)
+    none_or_part refusal.WriteFault e w = absurd (let both = e in cc)
 
--- the status of a refusal that says something of the files is the one that they ask for
-exact_end : ReaderLaws → (held : Held) (task : Task) (r : Refusal) → SaysOfFiles r → EndsBy r held task → (result : Status) → result ≡ status_of r
-    → IsExact held task result
-exact_end laws held task r d e result is = record {
-  served = λ all. absurd (served_ends_not laws held task all r d e);
-  refused = λ (s, other, f). is ∙ ap status_of (same_end laws held task r d e s (refused_decides s other) f) ∙ other;
-  limited = λ (s, other, f). is ∙ ap status_of (same_end laws held task r d e s (limited_decides s other) f) ∙ other;
-}
+    classify_unwritten : (r : Refusal) → WritesNothing (status_of r) → LeavesClassify holds failing names settings old new r → new ≡ old
+    classify_unwritten refusal.Words n w = w
+    classify_unwritten (refusal.NotThere f) n w = w
+    classify_unwritten (refusal.Faulty wrong) n w = w
+    classify_unwritten (refusal.Limit beyond) n w = w
+    classify_unwritten (refusal.Cycle cycle) n w = w
+    classify_unwritten (refusal.ReadFault f) n w = w
+    classify_unwritten refusal.WriteFault n w = absurd (n.2 refl)
+    classify_unwritten refusal.NoMemory n w = absurd (n.3 refl)
 
--- a refusal of a task of these words is one of the task
-decided_end : ReaderLaws → (held : Held) (words : List (List ℕ)) (task : Task) → AreWords words task → (r : Refusal) → SaysOfFiles r → (other : Task)
-    → AreWords words other → EndsBy r held other
-    → (result : Status) → result ≡ status_of r → IsExact held task result
-decided_end laws held words task w r d other v s result is =
-    exact_end laws held task r d (subst (λ (t : Task). EndsBy r held t) (one_task words other task v w) s) result is
+  module _ (names : FileNames) (name : List ℕ) where
+    pub verdict_part_of : (r : Refusal) → status_of r ≡ status.WriteFault → LeavesConfirm holds failing names name old new r
+        → WritesFirstOfVerdict holds failing names name old new
+    verdict_part_of refusal.WriteFault e w = w
+    verdict_part_of refusal.Words e w = absurd (let both = e in cc)
+    verdict_part_of (refusal.NotThere f) e w = absurd (let both = e in cc)
+    verdict_part_of (refusal.Faulty wrong) e w = absurd (let both = e in cc)
+    verdict_part_of (refusal.Limit beyond) e w = absurd (let both = e in cc)
+    verdict_part_of (refusal.Cycle cycle) e w = absurd (let both = e in cc)
+    verdict_part_of (refusal.ReadFault f) e w = absurd (let both = e in cc)
+    verdict_part_of refusal.NoMemory e w = absurd (let both = e in cc)
 
--- an explained end, without faults, is want of memory or the one that the files ask for
-ends : ReaderLaws → (held : Held) (words : List (List ℕ)) (task : Task) → AreWords words task → (r : Refusal) → (read write : Type 0)
-    → (is_read_status (status_of r) ≡ true → read) → (r ≡ refusal.WriteFault → write) → ¬ read → ¬ write → Explains (Some held) words r
-    → (result : Status) → result ≡ status_of r → (result ≡ status.NoMemory) ⊎ IsExact held task result
-ends laws held words task w refusal.Words read write rose wrote fine none e result is = absurd (e task w)
-ends laws held words task w refusal.WriteFault read write rose wrote fine none e result is = absurd (none (wrote refl))
-ends laws held words task w refusal.NoMemory read write rose wrote fine none e result is = inl is
-ends laws held words task w (refusal.ReadFault f) read write rose wrote fine none e result is = absurd (fine (rose refl))
-ends laws held words task w (refusal.NotThere f) read write rose wrote fine none (other, v, s) result is =
-    inr (decided_end laws held words task w (refusal.NotThere f) tt other v s result is)
-ends laws held words task w (refusal.Faulty fault) read write rose wrote fine none (other, v, s) result is =
-    inr (decided_end laws held words task w (refusal.Faulty fault) tt other v s result is)
-ends laws held words task w (refusal.Limit quantity) read write rose wrote fine none (other, v, s) result is =
-    inr (decided_end laws held words task w (refusal.Limit quantity) tt other v s result is)
-ends laws held words task w refusal.NotBuilt read write rose wrote fine none (other, v, s) result is =
-    inr (decided_end laws held words task w refusal.NotBuilt tt other v s result is)
-ends laws held words task w (refusal.Report report_refusal.NotThere) read write rose wrote fine none (other, v, s) result is =
-    inr (decided_end laws held words task w (refusal.Report report_refusal.NotThere) tt other v s result is)
-ends laws held words task w (refusal.Report report_refusal.TooLong) read write rose wrote fine none (other, v, s) result is =
-    inr (decided_end laws held words task w (refusal.Report report_refusal.TooLong) tt other v s result is)
-ends laws held words task w (refusal.Report report_refusal.ReadFault) read write rose wrote fine none e result is = absurd (fine (rose refl))
+    pub confirm_unwritten : (r : Refusal) → status_of r ≢ status.WriteFault → LeavesConfirm holds failing names name old new r → new ≡ old
+    confirm_unwritten refusal.Words n w = w
+    confirm_unwritten (refusal.NotThere f) n w = w
+    confirm_unwritten (refusal.Faulty wrong) n w = w
+    confirm_unwritten (refusal.Limit beyond) n w = w
+    confirm_unwritten (refusal.Cycle cycle) n w = w
+    confirm_unwritten (refusal.ReadFault f) n w = w
+    confirm_unwritten refusal.NoMemory n w = w
+    confirm_unwritten refusal.WriteFault n w = absurd (n refl)
 
--- the refusal of a fault of the shelf is one with its status
-read_fault_of : (T : Type 0) (r : Refusal) → is_read_status (status_of r) ≡ true → is_read_fault {T = T} (Err r) ≡ true
-read_fault_of T refusal.Words e = absurd (cc)
-read_fault_of T (refusal.NotThere f) e = absurd (cc)
-read_fault_of T (refusal.Faulty fault) e = absurd (cc)
-read_fault_of T (refusal.Limit quantity) e = absurd (cc)
-read_fault_of T refusal.NotBuilt e = absurd (cc)
-read_fault_of T (refusal.ReadFault f) e = refl
-read_fault_of T (refusal.Report report_refusal.NotThere) e = absurd (cc)
-read_fault_of T (refusal.Report report_refusal.TooLong) e = absurd (cc)
-read_fault_of T (refusal.Report report_refusal.ReadFault) e = refl
-read_fault_of T refusal.WriteFault e = absurd (cc)
-read_fault_of T refusal.NoMemory e = absurd (cc)
+  -- nothing was written where the status says so
+  pub unwritten : (words : List (List ℕ)) (r : Refusal) → WritesNothing (status_of r) → Explains holds failing words r → (NameNothing words → new ≡ old)
+      → ((names : FileNames) (settings : Settings) → AreClassifyWords words names settings → LeavesClassify holds failing names settings old new r)
+      → ((names : FileNames) (name : List ℕ) → AreConfirmWords words names name → LeavesConfirm holds failing names name old new r)
+      → new ≡ old
+  unwritten words r n (inl (e, nothing)) none left verdict = none nothing
+  unwritten words r n (inr (inl (names, settings, w, stops))) none left verdict = classify_unwritten names settings r n (left names settings w)
+  unwritten words r n (inr (inr (names, name, w, stops))) none left verdict = confirm_unwritten names name r n.2 (verdict names name w)
 
--- a fault of the shelf, and of the output, was counted
-pub rose_of_read : (T : Type 0) (before now : ℕ) (r : Refusal) → is_read_status (status_of r) ≡ true → TellsFault before now (is_read_fault {T = T} (Err r))
-    → Rose before now
-rose_of_read T before now r e told = (subst (TellsFault before now) (read_fault_of T r e) told).rose
+-- ---- completeness
 
-pub rose_of_write : (T : Type 0) (before now : ℕ) (r : Refusal) → r ≡ refusal.WriteFault → TellsFault before now (is_write_fault {T = T} (Err r))
-    → Rose before now
-rose_of_write T before now r e told = (subst (λ x. TellsFault before now (is_write_fault {T = T} (Err x))) e told).rose
+-- no fault was counted, so the call didn't fail
+not_failed : (old new : ℕ) (failed : Bool) → TellsFault old new failed → ¬ Rose old new → failed ≡ false
+not_failed old new true w n = absurd (n w.rose)
+not_failed old new false w n = refl
 
--- so `run` is complete where it is refused
-pub complete : ReaderLaws → (holds : Option Held) (words : List (List ℕ)) (r : Refusal) (read write : Type 0) (result : Status) → result ≡ status_of r
-    → (is_read_status (status_of r) ≡ true → read) → (r ≡ refusal.WriteFault → write) → Explains holds words r → IsComplete holds words read write result
-complete laws None words r read write result is rose wrote e = tt
-complete laws (Some held) words r read write result is rose wrote e =
-    λ task w fine none. ends laws held words task w r read write rose wrote fine none e result is
+-- without faults a refusal says something of the files, or memory ran out, or it is that of the words
+kind_of : (r : Refusal) → is_fault r ≡ false → is_of_output r ≡ false → SaysOfFiles r ⊎ ((r ≡ refusal.NoMemory) ⊎ (r ≡ refusal.Words))
+kind_of refusal.Words f o = inr (inr refl)
+kind_of refusal.NoMemory f o = inr (inl refl)
+kind_of (refusal.NotThere g) f o = inl tt
+kind_of (refusal.Faulty wrong) f o = inl tt
+kind_of (refusal.Limit beyond) f o = inl tt
+kind_of (refusal.Cycle cycle) f o = inl tt
+kind_of (refusal.ReadFault g) f o = absurd (true≢false f)
+kind_of refusal.WriteFault f o = absurd (true≢false o)
 
--- a status of a task whose files are all right is the one that they ask for
-served_exactly : ReaderLaws → (held : Held) (task : Task) → AreServed held task → (result : Status) → IsServedBy task.report result → IsExact held task result
-served_exactly laws held task all result by = record {
-  served = λ _. by;
-  refused = λ (s, e, f). absurd (served_ends_not laws held task all s (refused_decides s e) f);
-  limited = λ (s, e, f). absurd (served_ends_not laws held task all s (limited_decides s e) f);
-}
+module _ (laws : EachEndIsOne) (failing : Option Failing) (words : List (List ℕ)) (old new : Option (List ℕ)) where
+  -- at an end
+  pub complete_end : (A B : Type 0) (holds : Option Held) (s : Status) → IsEnd s
+      → ((names : FileNames) (settings : Settings) → AreClassifyWords words names settings → Answers holds failing names settings old new s)
+      → ((names : FileNames) (name : List ℕ) → AreConfirmWords words names name → WritesVerdict holds failing names name old new s)
+      → IfSome holds (λ held. A → B → IsComplete held words s)
+  complete_end A B None s end answers judged = tt
+  complete_end A B (Some held) s end answers judged = λ a b. record {
+    classify = λ names settings w. let a = answers names settings w in inr (record {
+      served = λ some. end;
+      refused = λ r says stops. absurd ((laws.classify held names settings).none None failing r says stops (a.kb, a.q, a.vocab, a.say, a.fetched, a.within));
+    });
+    confirm = λ names name w. let a = judged names name w in inr (record {
+      judged = λ verdict right. a.ends_so ∙ ap verdict_status ((laws.confirm held names name).verdict failing None a.verdict verdict a.judges right);
+      refused = λ r says stops. absurd ((laws.confirm held names name).none None failing r a.verdict says stops a.judges);
+    });
+  }
 
--- and where it is served
-pub complete_served : ReaderLaws → (holds : Option Held) (words : List (List ℕ)) (read write : Type 0) (result : Status) → EndsServed holds words result
-    → IsComplete holds words read write result
-complete_served laws None words read write result (task, w, all, by) = tt
-complete_served laws (Some held) words read write result (task, w, all, by) =
-    λ other v fine none. inr (subst (λ (t : Task). IsExact held t result) (one_task words task other w v) (served_exactly laws held task all result by))
+  -- by a refusal that says something of the files
+  exact_classify : (held : Held) (names : FileNames) (settings : Settings) (r : Refusal) → SaysOfFiles r
+      → StopsClassify (Some held) failing names settings r → IsExactClassify held names settings (status_of r)
+  exact_classify held names settings r says stops = record {
+    served = λ some. absurd ((laws.classify held names settings).none failing None r says stops some);
+    refused = λ t d w. same_status r t ((laws.classify held names settings).one failing None r t says d stops w);
+  }
 
--- the files of a job that came to its end are all right
-pub named_served : (holds : Option Held) (words : List (List ℕ)) (result : Status) → EndsServed holds words result → NameFiles holds words AreServed
-named_served holds words result (task, w, all, by) = (task, w, all)
+  exact_confirm : (held : Held) (names : FileNames) (name : List ℕ) (r : Refusal) → SaysOfFiles r
+      → StopsConfirm (Some held) failing names name r → IsExactConfirm held names name (status_of r)
+  exact_confirm held names name r says stops = record {
+    judged = λ verdict right. absurd ((laws.confirm held names name).none failing None r verdict says stops right);
+    refused = λ t d w. same_status r t ((laws.confirm held names name).one failing None r t says d stops w);
+  }
+
+  -- by any that is no fault
+  classify_complete : (held : Held) (names : FileNames) (settings : Settings) (r : Refusal) → SaysOfFiles r ⊎ ((r ≡ refusal.NoMemory) ⊎ (r ≡ refusal.Words))
+      → StopsClassify (Some held) failing names settings r → (status_of r ≡ status.NoMemory) ⊎ IsExactClassify held names settings (status_of r)
+  classify_complete held names settings r (inl says) stops = inr (exact_classify held names settings r says stops)
+  classify_complete held names settings r (inr (inl e)) stops = inl (ap status_of e)
+  classify_complete held names settings r (inr (inr e)) stops = absurd (classify_not_words (Some held) failing names settings r stops e)
+
+  confirm_complete : (held : Held) (names : FileNames) (name : List ℕ) (r : Refusal) → SaysOfFiles r ⊎ ((r ≡ refusal.NoMemory) ⊎ (r ≡ refusal.Words))
+      → StopsConfirm (Some held) failing names name r → (status_of r ≡ status.NoMemory) ⊎ IsExactConfirm held names name (status_of r)
+  confirm_complete held names name r (inl says) stops = inr (exact_confirm held names name r says stops)
+  confirm_complete held names name r (inr (inl e)) stops = inl (ap status_of e)
+  confirm_complete held names name r (inr (inr e)) stops = absurd (confirm_not_words (Some held) failing names name r stops e)
+
+  module _ (meaning : HaveOneMeaning) where
+    explained_complete : (held : Held) (r : Refusal) → SaysOfFiles r ⊎ ((r ≡ refusal.NoMemory) ⊎ (r ≡ refusal.Words))
+        → Explains (Some held) failing words r → IsComplete held words (status_of r)
+    explained_complete held r kind (inl (e, nothing)) = record {
+      classify = λ names settings w. absurd (nothing.0 names settings w);
+      confirm = λ names name w. absurd (nothing.1 names name w);
+    }
+    explained_complete held r kind (inr (inl (names, settings, w, stops))) = record {
+      classify = of_classify meaning words names settings w
+          (λ names settings. (status_of r ≡ status.NoMemory) ⊎ IsExactClassify held names settings (status_of r))
+          (classify_complete held names settings r kind stops);
+      confirm = not_confirm meaning words names settings w
+          (λ names name. (status_of r ≡ status.NoMemory) ⊎ IsExactConfirm held names name (status_of r));
+    }
+    explained_complete held r kind (inr (inr (names, name, w, stops))) = record {
+      classify = not_classify meaning words names name w
+          (λ names settings. (status_of r ≡ status.NoMemory) ⊎ IsExactClassify held names settings (status_of r));
+      confirm = of_confirm meaning words names name w
+          (λ names name. (status_of r ≡ status.NoMemory) ⊎ IsExactConfirm held names name (status_of r))
+          (confirm_complete held names name r kind stops);
+    }
+
+    -- at a refusal, where no fault was counted
+    pub complete_refused : (holds : Option Held) (s : Status) (r : Refusal) → s ≡ status_of r → Explains holds failing words r
+        → (read reads wrote writes : ℕ) → TellsFault read reads (is_fault r) → TellsFault wrote writes (is_of_output r)
+        → IfSome holds (λ held. ¬ Rose read reads → ¬ Rose wrote writes → IsComplete held words s)
+    complete_refused None s r e w read reads wrote writes f g = tt
+    complete_refused (Some held) s r e w read reads wrote writes f g = λ m n.
+        subst (IsComplete held words) (sym e) (explained_complete held r (kind_of r (not_failed read reads (is_fault r) f m)
+        (not_failed wrote writes (is_of_output r) g n)) w)

@@ -1,14 +1,14 @@
 //! What holds of the ends of a job.
 
-ghost use Rattle.cqapri_cli.specs.Run.{EachEndIsOne};
+ghost use Rattle.cqapri_cli.specs.EndLaws.{EachEndIsOne};
 
-use query_reader::laws_of_the_grammar;
+use input_files::{one_end, one_reading};
 
-/// No files ask for two refusals, and files that are answered ask for none: what `run` says of files is determined by them.
-pub fn one_end()
-    ensures law { EachEndIsOne }
+/// Two refusals that the same words and files ask for are the same, up to which cycle they name, and files that are served ask for none;
+/// a report has one verdict, and with it none is asked for.
+pub fn each_end_is_one()
+    ensures { EachEndIsOne }
 {
-    axiom_reader::one_reading();
-    fact_tables::one_reading();
-    laws_of_the_grammar();
+    one_reading();
+    one_end();
 }

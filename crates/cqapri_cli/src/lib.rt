@@ -1,29 +1,17 @@
 //! The jobs of `cqapri` and the call that runs them.
 #![tactic(auto)]
 
-mod asked;
 mod classify_job;
 mod confirm_job;
-mod fault;
-mod files;
-mod input;
 mod jobs;
 mod law;
-mod paths;
-mod pieces;
-mod refusal;
-mod report_file;
-mod report_lines;
-mod report_refusal;
-mod report_writer;
-mod status;
+mod preparing;
+mod report_law;
 mod top_call;
 mod verdict_writer;
+mod writing;
 
-pub use fault::Fault;
-pub use files::{File, Quantity};
-pub use law::one_end;
-pub use refusal::Refusal;
-pub use report_refusal::ReportRefusal;
-pub use status::Status;
+pub use cqapri_words::{Refusal, Status};
+pub use law::each_end_is_one;
+pub use report_law::{accepted_is_right, open_is_counted, right_lines_spend};
 pub use top_call::run;

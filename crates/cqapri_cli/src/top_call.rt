@@ -1,29 +1,33 @@
 //! The call that runs a job.
 
-ghost use Rattle.std.specs.Prelude.{◌≡◌, ◌≢◌, ◌↔◌, ◌⊎◌, map, string_bytes};
+ghost use Rattle.std.specs.Prelude.{◌≡◌, ◌↔◌, ℕ, List, map, string_bytes, IfSome};
 ghost use Rattle.cq_io.specs.Faults.{Rose, TellsFault};
-ghost use Rattle.cqapri_cli.specs.Refusals.{Tells, status_of};
-ghost use Rattle.cqapri_cli.specs.ReportFile.{AreServed};
-ghost use Rattle.cqapri_cli.specs.Run.{NameNothing, NameFiles, EndsWith, Explains, IsComplete, IsEnd, WritesDone, WritesOpen, WritesFirst, WritesFirstLines, WritesNothing, is_read_status, is_write_status};
-ghost use Rattle.cqapri_cli.specs.Verdicts.{WritesFirstOfVerdict};
-ghost use Rattle.cqapri_cli.specs.declared.refusal.Refusal.{Refusal};
+ghost use Rattle.cqapri_words.specs.Refusals.{Tells, status_of};
+ghost use Rattle.cqapri_words.specs.Words.{FileNames, Settings, AreClassifyWords, AreConfirmWords, NameNothing};
+ghost use Rattle.cqapri_words.specs.declared.refusal.Refusal.{Refusal};
+ghost use Rattle.cqapri_cli.specs.Complete.{IsComplete};
+ghost use Rattle.cqapri_cli.specs.Ends.{Explains, IsEnd, WritesNothing, is_read_status, is_write_status};
+ghost use Rattle.cqapri_cli.specs.Headline.{Answers};
+ghost use Rattle.cqapri_cli.specs.Parts.{WritesNoneOrPart, WritesPart};
+ghost use Rattle.cqapri_cli.specs.Verdicts.{WritesFirstOfVerdict, WritesVerdict};
 
-use crate::Status;
 use crate::jobs::run_job;
+use crate::law::each_end_is_one;
 use cq_io::{Shelf, Sink};
-use query_reader::laws_of_the_grammar;
+use cqapri_words::{Status, one_meaning};
 use std::alloc::Global;
 
-/// Runs the job that the words after the program's name ask for: `classify --ontology F --facts F --query F`, or `confirm`
-/// with the same files and `--report F`.
+/// Runs the job that the words after the program's name ask for: `classify` or `confirm`, with options as pairs `--x V` in any
+/// order.
 ///
-/// The files are fetched from `files` and tested in this order: the axioms, the facts, the query, the report. `classify`
-/// writes a report to `out`, line by line: a head of version 0; for each candidate, in the order of the individuals' first
-/// appearance, its core where some repair entails that it is in the concept, and its answer; and an end. The core keeps the
-/// least fact that by itself is consistent and entails it, and drops the facts that conflict with that one. `confirm` writes
-/// one line: `accepted N` with the number of answers where each line of the report obeys its rule, and else `rejected line L:
-/// RULE` with the first broken line and its first broken rule, and then the status is `Open`. `err` gets one line where the
-/// status is neither `Done` nor `Open`. Repairs are the maximal consistent parts of the facts (Bienvenu and Bourgaux 2022).
+/// The files are fetched from `files` in this order, and each is read before the next is fetched: the axioms, the facts, the
+/// priority where one is named, the query, the report to confirm. `classify` then refuses closures, conflicts and supports beyond
+/// their limits and a priority with a cycle, and writes a report to `out`: every tuple that the whole table entails once, with its
+/// verdicts and their evidence. Its status is `Done`, or `Open` where some answer has an undecided question. `confirm` writes one
+/// line: `accepted N` with the number of answers where the report is accepted, and else `rejected line L: RULE` with the first
+/// broken line and its first broken rule, and then its status is `Open`. `err` gets one line where the status is neither. `out` is
+/// flushed once, after the last write. Facts and axioms are those of DL-Lite_R (Calvanese and others 2007), verdicts and repairs
+/// those of Bienvenu, Bourgaux and Goasdoué (2014) and of Bienvenu and Bourgaux (2022).
 pub fn run<S: Shelf, O: Sink, E: Sink>(
     alloc: Global,
     words: &[String],
@@ -31,31 +35,38 @@ pub fn run<S: Shelf, O: Sink, E: Sink>(
     out: &mut O,
     err: &mut E,
 ) -> Status
-    // When each status comes.
+    // The headline of `classify`, and the same of `confirm`.
+    ensures headline { IsEnd result → (names : FileNames) (settings : Settings) → AreClassifyWords (map string_bytes words.now) names settings
+        → Answers (S.holds files.old) (S.failing files.old) names settings (O.written out.old) (O.written out.new) result }
+    ensures judged { IsEnd result → (names : FileNames) (report : List ℕ) → AreConfirmWords (map string_bytes words.now) names report
+        → WritesVerdict (S.holds files.old) (S.failing files.old) names report (O.written out.old) (O.written out.new) result }
+    ensures complete { IfSome (S.holds files.old) (λ held. ¬ Rose (S.faults files.old) (S.faults files.new)
+        → ¬ Rose (O.faults out.old) (O.faults out.new) → IsComplete held (map string_bytes words.now) result) }
+
+    // Every other end, with the text that says why.
     ensures words { (result ≡ Status.Words) ↔ NameNothing (map string_bytes words.now) }
-    ensures refused { result ≡ Status.Refused → NameFiles (S.holds files.old) (map string_bytes words.now) (EndsWith Status.Refused) }
-    ensures limited { result ≡ Status.Limit → NameFiles (S.holds files.old) (map string_bytes words.now) (EndsWith Status.Limit) }
-    ensures accepted { (IsEnd result ⊎ (result ≡ Status.WriteFault)) → NameFiles (S.holds files.old) (map string_bytes words.now) AreServed }
-    ensures complete { IsComplete (S.holds files.old) (map string_bytes words.now) (Rose (S.faults files.old) (S.faults files.new)) (Rose (O.faults out.old) (O.faults out.new)) result }
+    ensures told { ¬ IsEnd result → (r : Refusal) × (status_of r ≡ result)
+        × Explains (S.holds files.old) (S.failing files.old) (map string_bytes words.now) r
+        × Tells r (E.written err.old) (E.written err.new) (E.faults err.old) (E.faults err.new) }
+    ensures silent { IsEnd result → (E.written err.new ≡ E.written err.old) × (E.faults err.new ≡ E.faults err.old) }
     ensures read_fault { TellsFault (S.faults files.old) (S.faults files.new) (is_read_status result) }
     ensures write_fault { TellsFault (O.faults out.old) (O.faults out.new) (is_write_status result) }
 
-    // What `out` and `err` have got.
-    ensures answers { result ≡ Status.Done → WritesDone (S.holds files.old) (map string_bytes words.now) (O.written out.old) (O.written out.new) }
-    ensures rejected { result ≡ Status.Open → WritesOpen (S.holds files.old) (map string_bytes words.now) (O.written out.old) (O.written out.new) }
-    ensures part { result ≡ Status.WriteFault → WritesFirst (S.holds files.old) (map string_bytes words.now) (O.written out.old) (O.written out.new)
-        ⊎ WritesFirstOfVerdict (S.holds files.old) (map string_bytes words.now) (O.written out.old) (O.written out.new) }
-    ensures whole_lines { result ≡ Status.NoMemory → WritesFirstLines (S.holds files.old) (map string_bytes words.now) (O.written out.old) (O.written out.new) }
+    // What `out` has got then.
     ensures nothing_written { WritesNothing result → O.written out.new ≡ O.written out.old }
-    ensures silent { IsEnd result → (E.written err.new ≡ E.written err.old) × (E.faults err.new ≡ E.faults err.old) }
-    ensures told { ¬ IsEnd result → (r : Refusal) × (status_of r ≡ result) × Explains (S.holds files.old) (map string_bytes words.now) r
-        × Tells r (E.written err.old) (E.written err.new) (E.faults err.old) (E.faults err.new) }
+    ensures part { result ≡ Status.WriteFault → (names : FileNames) (settings : Settings) → AreClassifyWords (map string_bytes words.now) names settings
+        → WritesPart (S.holds files.old) (S.failing files.old) names settings (O.written out.old) (O.written out.new) }
+    ensures part_of_verdict { result ≡ Status.WriteFault → (names : FileNames) (report : List ℕ) → AreConfirmWords (map string_bytes words.now) names report
+        → WritesFirstOfVerdict (S.holds files.old) (S.failing files.old) names report (O.written out.old) (O.written out.new) }
+    ensures none_or_part { result ≡ Status.NoMemory → (names : FileNames) (settings : Settings) → AreClassifyWords (map string_bytes words.now) names settings
+        → WritesNoneOrPart (S.holds files.old) (S.failing files.old) names settings (O.written out.old) (O.written out.new) }
+    ensures no_verdict { result ≡ Status.NoMemory → (names : FileNames) (report : List ℕ) → AreConfirmWords (map string_bytes words.now) names report
+        → O.written out.new ≡ O.written out.old }
 
     ensures same_files { S.holds files.new ≡ S.holds files.old }
 {
-    axiom_reader::one_reading();
-    fact_tables::one_reading();
-    laws_of_the_grammar();
+    one_meaning();
+    each_end_is_one();
     match run_job(alloc, words, files, out) {
         Ok(status) => status,
         Err(refusal) => {

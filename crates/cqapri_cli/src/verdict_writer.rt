@@ -3,11 +3,11 @@
 ghost use Rattle.std.specs.Prelude.{◌≡◌, OnOk, OnErr, is_err};
 ghost use Rattle.cq_io.specs.Faults.{TellsFault};
 ghost use Rattle.cq_io.specs.Writing.{appended};
-ghost use Rattle.cqapri_cli.specs.Pieces.{AppendsFirst};
+ghost use Rattle.cqapri_words.specs.Pieces.{AppendsFirst};
 ghost use Rattle.cqapri_cli.specs.Verdicts.{verdict_text};
 
-use crate::pieces::write_pieces;
 use cq_io::{Failed, Sink};
+use cqapri_words::write_pieces;
 use itoa::Buffer;
 use refutation_confirmer::Confirmed;
 use report_rules::Rule;

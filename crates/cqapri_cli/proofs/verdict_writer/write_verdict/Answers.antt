@@ -1,5 +1,5 @@
 use Rattle.cqapri_cli.specs.Verdicts.{verdict_text}
-use Rattle.cqapri_cli.proofs.PieceLemmas.{OnErr-of, all_first}
+use Rattle.cqapri_cli.proofs.StopLemmas.{OnErr-of, all_first}
 use Rattle.cqapri_cli.proofs.verdict_writer.write_verdict.Goals as goal
 
 pub returns-clause-part : goal.returns-clause-part
