@@ -1,5 +1,5 @@
 -- What a preparation and a report ask of an input.
-use Rattle.std.specs.Prelude.{◌<◌, ◌^◌, ℕ, length, All}
+use Rattle.std.specs.Prelude.{◌<◌, ◌^◌, length, All}
 use Rattle.cq_terms.specs.Knowledge.{Knowledge}
 use Rattle.cq_terms.specs.Query.{Query}
 use Rattle.cq_terms.specs.declared.names.Vocab.{Vocab}

@@ -6,6 +6,8 @@ mod answers;
 #[cfg(test)]
 mod faults;
 #[cfg(test)]
+mod judged;
+#[cfg(test)]
 mod named;
 #[cfg(test)]
 mod parts;

@@ -3,7 +3,8 @@
 use crate::registers::Register;
 use crate::texts::{are_told, are_told_when_cut};
 
-const REPORT: &str =
+/// Two answers: of the one IAR is left open and AR is yes, of the other all is yes.
+pub const REPORT: &str =
     r#"{"axioms":5,"budget":1,"facts":5,"k":"head","keep":0,"repairs":"pareto","version":1}
 {"body":[["c",0,0]],"head":[0],"k":"cq","move":null,"of":"query","parent":null}
 {"body":[["c",0,0],["c",1,0]],"head":[],"k":"cq","move":null,"of":0,"parent":null}

@@ -2,7 +2,13 @@
 #![tactic(auto)]
 
 #[cfg(test)]
+mod bad_bytes;
+#[cfg(test)]
+mod bad_texts;
+#[cfg(test)]
 mod crowded;
+#[cfg(test)]
+mod moved_lines;
 #[cfg(test)]
 mod plain;
 #[cfg(test)]

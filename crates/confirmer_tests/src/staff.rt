@@ -3,8 +3,8 @@
 use crate::registers::Register;
 use crate::texts::{are_told, are_told_when_cut};
 
-// A tuple that is brave and neither AR nor IAR, with the evidence.
-const REPORT: &str =
+/// A tuple that is brave and neither AR nor IAR, with the evidence.
+pub const REPORT: &str =
     r#"{"axioms":2,"budget":20000,"facts":2,"k":"head","keep":20000,"repairs":"pareto","version":1}
 {"body":[["c",1,0]],"head":[0],"k":"cq","move":null,"of":"query","parent":null}
 {"body":[["c",0,0]],"head":[0],"k":"cq","move":["axiom",0,0],"of":"query","parent":0}
@@ -60,8 +60,9 @@ fn the_head_and_the_blocks_are_right(rt: HostRuntime) {
         REPORT,
         &[
             "\"axioms\":2~\"axioms\":3~1 head",
+            "\"axioms\":2~\"axioms\":1~1 head",
             "\"facts\":2~\"facts\":1~1 head",
-            "\"version\":1~\"version\":0~1 head",
+            "\"facts\":2~\"facts\":3~1 head",
             // Another query, one that no move makes, and one that stands already.
             "[[\"c\",1,0]]~[[\"c\",2,0]]~2 cq",
             "[[\"c\",0,0]]~[[\"c\",2,0]]~3 cq",

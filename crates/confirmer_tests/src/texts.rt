@@ -2,10 +2,13 @@
 
 use crate::registers::{Register, knowledge, query_of};
 use cq_terms::Vocab;
+use refutation_confirmer::{ConfirmFault, Confirmed, confirm};
 use std::alloc::{AllocError, Global};
 use std::process::Abort;
 use std::test::Fail;
-use whole_confirmer::{ConfirmFault, Confirmed, confirm};
+
+/// How many bytes a report here has at most: as many as the program takes.
+pub const LONGEST: usize = 268_435_456;
 
 /// The report, with the alteration of each row, is told as the row says.
 pub fn are_told(rt: &impl Abort, alloc: Global, register: Register, report: &str, rows: &[&str]) {
@@ -23,7 +26,7 @@ fn is_told(rt: &impl Abort, alloc: Global, register: Register, report: &str, row
 
 fn is_told_so(alloc: Global, register: Register, report: &str, row: &str) -> Result<bool, Fail> {
     let (text, wanted) = altered(alloc, report, row)?;
-    let told = said(alloc, register, &text)?;
+    let told = said(alloc, register, text.as_bytes())?;
     Ok(told.as_str() == wanted)
 }
 
@@ -49,7 +52,7 @@ fn is_told_when_cut(rt: &impl Abort, alloc: Global, register: Register, report: 
 
 fn is_cut_so(alloc: Global, register: Register, report: &str, row: &str) -> Result<bool, Fail> {
     let (text, wanted) = cut(alloc, report, row)?;
-    let told = said(alloc, register, &text)?;
+    let told = said(alloc, register, text.as_bytes())?;
     Ok(told.as_str() == wanted)
 }
 
@@ -71,18 +74,29 @@ fn cut<'a>(alloc: Global, text: &str, row: &'a str) -> Result<(String, &'a str),
     Ok((report, wanted))
 }
 
+/// The bytes of a report are told as is wanted.
+pub fn are_bytes_told(
+    rt: &impl Abort,
+    alloc: Global,
+    register: Register,
+    report: &[u8],
+    wanted: &str,
+) {
+    match said(alloc, register, report) {
+        Ok(told) => assert!(rt; told.as_str() == wanted, "{told} in place of {wanted}"),
+        Err(_) => panic!(rt; "no answer in place of {wanted}"),
+    }
+}
+
 // What is said of a report on the register: how many answers it has, its first broken line with the rule, or how long its cycle is.
-fn said(alloc: Global, register: Register, report: &str) -> Result<String, Fail> {
-    if report.len() > 1_000_000 {
+fn said(alloc: Global, register: Register, report: &[u8]) -> Result<String, Fail> {
+    if report.len() > LONGEST {
         return Err(Fail::from("the report is long"));
     }
     let kb = knowledge(alloc, register)?;
     let query = query_of(alloc, register)?;
     let vocab = names(alloc)?;
-    let text = told(
-        alloc,
-        confirm(alloc, &kb, &vocab, &query, report.as_bytes()),
-    )?;
+    let text = told(alloc, confirm(alloc, &kb, &vocab, &query, report))?;
     Ok(text)
 }
 

@@ -2,58 +2,104 @@
 
 use cq_io::{MemShelf, MemSink};
 use cq_terms::NoMemory;
+use cqapri_cli::{Status, run};
 use std::alloc::{AllocError, Global};
+use std::test::Fail;
 
-/// The words that name the files of a row to answer.
-pub(crate) const CLASSIFY: [&str; 7] = [
-    "classify",
-    "--ontology",
-    "o",
-    "--facts",
-    "f",
-    "--query",
-    "q",
-];
+/// The texts of a row: the ontology, the facts, the priority, which isn't named where it is empty, and the query.
+#[derive(Clone, Copy, Debug)]
+pub(crate) struct Texts<'a> {
+    pub(crate) ontology: &'a str,
+    pub(crate) facts: &'a str,
+    pub(crate) priority: &'a str,
+    pub(crate) query: &'a str,
+}
 
-/// The words that name the files of a row and a report to confirm.
-pub(crate) const CONFIRM: [&str; 9] = [
-    "confirm",
-    "--ontology",
-    "o",
-    "--facts",
-    "f",
-    "--query",
-    "q",
-    "--report",
-    "r",
-];
+/// What a run has written, and its end.
+#[derive(Drop)]
+pub(crate) struct Ended {
+    pub(crate) status: Status,
+    pub(crate) out: MemSink,
+    pub(crate) err: MemSink,
+}
 
-/// The words as `run` takes them.
-pub(crate) fn words(alloc: Global, texts: &[&str]) -> Result<Vec<String>, AllocError> {
-    let mut words = Vec::new(alloc);
-    for text in texts {
-        words.push(String::from_str(alloc, text)?)?;
+impl Ended {
+    /// Whether the run ended with the status, with the texts on `out` and on `err`.
+    pub(crate) fn is(&self, status: Status, out: &str, err: &str) -> bool {
+        self.status == status
+            && self.out.written() == out.as_bytes()
+            && self.err.written() == err.as_bytes()
     }
+}
+
+/// The words of the job on the files of a row, and more.
+pub(crate) fn words(
+    alloc: Global,
+    job: &str,
+    texts: &Texts<'_>,
+    more: &[&str],
+) -> Result<Vec<String>, AllocError> {
+    let mut words = Vec::new(alloc);
+    put_all(&mut words, &[job, "--ontology", "o", "--facts", "f"])?;
+    put_all(&mut words, &["--query", "q"])?;
+    if !texts.priority.is_empty() {
+        put_all(&mut words, &["--priority", "p"])?;
+    }
+    put_all(&mut words, more)?;
     Ok(words)
 }
 
-/// A shelf with the three files.
-pub(crate) fn shelf(
-    alloc: Global,
-    ontology: &str,
-    facts: &str,
-    query: &str,
-) -> Result<MemShelf, NoMemory> {
+/// Puts texts behind the words.
+pub(crate) fn put_all(words: &mut Vec<String>, texts: &[&str]) -> Result<(), AllocError> {
+    for text in texts {
+        words.push(String::from_str(*words.allocator(), text)?)?;
+    }
+    Ok(())
+}
+
+/// A shelf with the files of a row.
+pub(crate) fn shelf(alloc: Global, texts: &Texts<'_>) -> Result<MemShelf, NoMemory> {
     let mut shelf = MemShelf::new(alloc);
-    shelf.put("o", ontology.as_bytes())?;
-    shelf.put("f", facts.as_bytes())?;
-    shelf.put("q", query.as_bytes())?;
+    shelf.put("o", texts.ontology.as_bytes())?;
+    shelf.put("f", texts.facts.as_bytes())?;
+    shelf.put("p", texts.priority.as_bytes())?;
+    shelf.put("q", texts.query.as_bytes())?;
     Ok(shelf)
 }
 
 /// A sink with room for what a row writes.
 pub(crate) fn sink(alloc: Global, fail_after: Option<u64>) -> Result<MemSink, NoMemory> {
     let mut sink = MemSink::new(alloc, fail_after);
-    sink.reserve(1000)?;
+    sink.reserve(100_000)?;
     Ok(sink)
+}
+
+/// The end of a run with the words on the shelf.
+pub(crate) fn end_of(
+    alloc: Global,
+    words: &[String],
+    files: &mut MemShelf,
+    fail_after: Option<u64>,
+) -> Result<Ended, NoMemory> {
+    let mut out = sink(alloc, fail_after)?;
+    let mut err = sink(alloc, None)?;
+    let status = run(alloc, words, files, &mut out, &mut err);
+    Ok(Ended { status, out, err })
+}
+
+/// The end of `classify` on the files of a row, with more words.
+pub(crate) fn classified(alloc: Global, texts: &Texts<'_>, more: &[&str]) -> Result<Ended, Fail> {
+    let words = words(alloc, "classify", texts, more)?;
+    let mut files = shelf(alloc, texts)?;
+    let ended = end_of(alloc, &words, &mut files, None)?;
+    Ok(ended)
+}
+
+/// The end of `confirm` of the report on the files of a row.
+pub(crate) fn confirmed(alloc: Global, texts: &Texts<'_>, report: &[u8]) -> Result<Ended, Fail> {
+    let words = words(alloc, "confirm", texts, &["--report", "r"])?;
+    let mut files = shelf(alloc, texts)?;
+    files.put("r", report)?;
+    let ended = end_of(alloc, &words, &mut files, None)?;
+    Ok(ended)
 }

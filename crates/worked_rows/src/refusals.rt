@@ -1,8 +1,9 @@
 //! Rows that are refused.
 
-use crate::desk::{CLASSIFY, shelf, sink, words};
+use crate::desk::{Texts, classified, end_of, shelf, words};
+use crate::tables::decides;
 use cq_io::MemShelf;
-use cqapri_cli::{Status, run};
+use cqapri_cli::Status;
 use std::alloc::{AllocError, Global};
 use std::process::Abort;
 use std::test::Fail;
@@ -12,6 +13,14 @@ const ONTOLOGY: &str = "A < B\n";
 const FACTS: &str = "A,a\nA,b\n";
 
 const QUERY: &str = "?x <- B(?x)\n";
+
+/// The files of a row that is right.
+const RIGHT: Texts<'static> = Texts {
+    ontology: ONTOLOGY,
+    facts: FACTS,
+    priority: "",
+    query: QUERY,
+};
 
 /// A run on the three files is refused with the status and the text.
 fn tells(rt: &impl Abort, alloc: Global, texts: [&str; 3], status: Status, text: &str) {
@@ -40,6 +49,7 @@ fn the_first_bad_line_is_told(rt: HostRuntime) {
     bad_line(&rt, alloc, "A < not role\n", 1);
     bad_line(&rt, alloc, "role inv inv < P\n", 1);
     bad_line(&rt, alloc, "func P\n", 1);
+    bad_line(&rt, alloc, "A < B\n\u{FEFF}A < B\n", 2);
 }
 
 /// A run on the facts is refused for a record.
@@ -77,6 +87,12 @@ fn the_first_fault_of_a_query_is_told(rt: HostRuntime) {
     bad_query(&rt, alloc, "<- A('a", "byte 7: bad token");
     bad_query(&rt, alloc, "<- A(?x) B", "byte 9: bad token");
     bad_query(&rt, alloc, " \r\n", "byte 3: bad token");
+    bad_query(&rt, alloc, "", "byte 0: bad token");
+}
+
+#[test]
+fn the_first_faulty_head_place_is_told(rt: HostRuntime) {
+    let alloc = rt.alloc();
     bad_query(&rt, alloc, "?x ?x <- A(?x)", "head place 1: repeated");
     bad_query(&rt, alloc, "?y <- A(?x)", "head place 0: not in body");
 }
@@ -94,18 +110,13 @@ fn a_query_of_an_atom_too_many_is_beyond_its_limit(rt: HostRuntime) {
     );
 }
 
-/// A run on right files isn't answered yet.
-fn not_built(rt: &impl Abort, alloc: Global, texts: [&str; 3]) {
-    tells(rt, alloc, texts, Status::Refused, "cqapri: not built\n");
-}
-
 #[test]
-fn what_is_not_answered_yet_is_not_built(rt: HostRuntime) {
-    let alloc = rt.alloc();
-    not_built(&rt, alloc, ["A < some P\n", FACTS, QUERY]);
-    not_built(&rt, alloc, [ONTOLOGY, "P,a,b\n", QUERY]);
-    not_built(&rt, alloc, [ONTOLOGY, FACTS, "?x <- A(?x), B(?x)"]);
-    not_built(&rt, alloc, [ONTOLOGY, FACTS, "<- A('a')"]);
+fn a_query_of_as_many_atoms_as_its_limit_is_answered(rt: HostRuntime) {
+    let texts = Texts {
+        query: "<- A(?x),A(?x),A(?x),A(?x),A(?x),A(?x),A(?x),A(?x),A(?x),A(?x),A(?x),A(?x)",
+        ..RIGHT
+    };
+    decides(&rt, rt.alloc(), &texts, &[], "yes,yes,yes\n");
 }
 
 /// A run where other bytes stand under the name ends with the status and the text.
@@ -123,7 +134,7 @@ fn is_told_on(
     status: Status,
     text: &str,
 ) -> Result<bool, Fail> {
-    let mut files = shelf(alloc, ONTOLOGY, FACTS, QUERY)?;
+    let mut files = shelf(alloc, &RIGHT)?;
     files.put(name, bytes)?;
     ends_with(alloc, &mut files, status, text)
 }
@@ -167,21 +178,20 @@ fn one_more_than_a_limit_is_refused(rt: HostRuntime) {
     let alloc = rt.alloc();
     is_too_much(&rt, alloc, "o", b"A < B\n", 20_001, "axioms");
     is_too_much(&rt, alloc, "f", b"A,a\n", 200_001, "records");
+    is_too_much(&rt, alloc, "p", b"1,2\n", 400_001, "pairs");
     is_too_much(&rt, alloc, "q", b" ", 65_537, "query length");
 }
 
 #[test]
 fn as_many_as_a_limit_are_answered(rt: HostRuntime) -> Result<(), Fail> {
     let alloc = rt.alloc();
-    let mut files = shelf(alloc, ONTOLOGY, FACTS, QUERY)?;
+    let mut files = shelf(alloc, &RIGHT)?;
     files.put("o", &repeated(alloc, b"A < B\n", 20_000)?)?;
     files.put("f", &repeated(alloc, b"A,a\n", 200_000)?)?;
-    let mut out = sink(alloc, None)?;
-    let mut err = sink(alloc, None)?;
-    let words = words(alloc, &CLASSIFY)?;
-    let end = run(alloc, &words, &mut files, &mut out, &mut err);
-    assert_eq!(rt; end, Status::Done);
-    assert!(rt; err.written().is_empty());
+    let words = words(alloc, "classify", &RIGHT, &[])?;
+    let ended = end_of(alloc, &words, &mut files, None)?;
+    assert_eq!(rt; ended.status, Status::Done);
+    assert!(rt; ended.err.written().is_empty());
     Ok(())
 }
 
@@ -197,8 +207,14 @@ fn repeated(alloc: Global, line: &[u8], count: usize) -> Result<Vec<u8>, AllocEr
 /// Whether a run on the three files ends with the status, and with the text on `err` and nothing on `out`.
 fn is_told(alloc: Global, texts: [&str; 3], status: Status, told: &str) -> Result<bool, Fail> {
     let [ontology, facts, query] = texts;
-    let mut files = shelf(alloc, ontology, facts, query)?;
-    ends_with(alloc, &mut files, status, told)
+    let texts = Texts {
+        ontology,
+        facts,
+        priority: "",
+        query,
+    };
+    let ended = classified(alloc, &texts, &[])?;
+    Ok(ended.is(status, "", told))
 }
 
 /// Whether a run on the shelf ends with the status, and with the text on `err` and nothing on `out`.
@@ -208,112 +224,52 @@ fn ends_with(
     status: Status,
     told: &str,
 ) -> Result<bool, Fail> {
-    let mut out = sink(alloc, None)?;
-    let mut err = sink(alloc, None)?;
-    let words = words(alloc, &CLASSIFY)?;
-    let end = run(alloc, &words, files, &mut out, &mut err);
-    Ok(end == status && err.written() == told.as_bytes() && out.written().is_empty())
+    let words = words(alloc, "classify", &RIGHT, &["--priority", "p"])?;
+    let ended = end_of(alloc, &words, files, None)?;
+    Ok(ended.is(status, "", told))
+}
+
+/// Whether a run where so many line feeds stand under the name is beyond the limit.
+fn is_too_long(alloc: Global, name: &str, count: usize, told: &str) -> Result<bool, Fail> {
+    let bytes = vec![in alloc; b'\n'; count]?;
+    let mut files = shelf(alloc, &RIGHT)?;
+    files.put(name, &bytes)?;
+    ends_with(alloc, &mut files, Status::Limit, told)
 }
 
 #[test]
 fn an_ontology_of_a_byte_too_many_is_beyond_its_limit(rt: HostRuntime) -> Result<(), Fail> {
-    let alloc = rt.alloc();
-    let mut files = shelf(alloc, "", FACTS, QUERY)?;
-    files.put("o", &vec![in alloc; b'\n'; 16_777_217]?)?;
-    let text = "cqapri: limit: ontology length\n";
-    assert!(rt; ends_with(alloc, &mut files, Status::Limit, text)?);
+    let told = "cqapri: limit: ontology length\n";
+    assert!(rt; is_too_long(rt.alloc(), "o", 16_777_217, told)?);
     Ok(())
 }
 
 #[test]
-fn other_words_are_refused(rt: HostRuntime) -> Result<(), Fail> {
-    let alloc = rt.alloc();
-    assert!(rt; are_refused(alloc, &[])?);
-    assert!(rt; are_refused(alloc, &["clasify"])?);
-    assert!(rt; are_refused(alloc, &["classify", "--ontology", "o", "--facts", "f"])?);
-    let other_order = [
-        "classify",
-        "--facts",
-        "f",
-        "--ontology",
-        "o",
-        "--query",
-        "q",
-    ];
-    assert!(rt; are_refused(alloc, &other_order)?);
-    let without_report = ["confirm", "--ontology", "o", "--facts", "f", "--query", "q"];
-    assert!(rt; are_refused(alloc, &without_report)?);
+fn a_priority_of_a_byte_too_many_is_beyond_its_limit(rt: HostRuntime) -> Result<(), Fail> {
+    let told = "cqapri: limit: priority length\n";
+    assert!(rt; is_too_long(rt.alloc(), "p", 16_777_217, told)?);
     Ok(())
 }
 
-/// Whether a run with the words ends with the status and the text for wrong words.
-fn are_refused(alloc: Global, texts: &[&str]) -> Result<bool, Fail> {
-    let mut files = shelf(alloc, ONTOLOGY, FACTS, QUERY)?;
-    let mut out = sink(alloc, None)?;
-    let mut err = sink(alloc, None)?;
-    let words = words(alloc, texts)?;
-    let status = run(alloc, &words, &mut files, &mut out, &mut err);
-    let told = err.written() == b"cqapri: words\n".as_slice();
-    Ok(status == Status::Words && told && out.written().is_empty())
-}
-
-/// Where the facts are sought under the name, and the shelf fails at the call, a run ends with the status, the text on `err` and nothing
-/// on `out`.
-fn ends_without_facts(
-    rt: &impl Abort,
-    alloc: Global,
-    name: &str,
-    call: Option<u64>,
-    status: Status,
-    text: &str,
-) -> Result<(), Fail> {
-    let mut files = shelf(alloc, ONTOLOGY, FACTS, QUERY)?;
-    if let Some(call) = call {
-        files.fail_at(call)?;
+/// A run on the priority beside right files is refused so.
+fn bad_pair(rt: &impl Abort, alloc: Global, priority: &str, fault: &str) {
+    match is_bad_pair(alloc, priority, fault) {
+        Ok(is_bad) => assert!(rt; is_bad, "of {fault}"),
+        Err(_) => panic!(rt; "no run"),
     }
-    let mut out = sink(alloc, None)?;
-    let mut err = sink(alloc, None)?;
-    let texts = [
-        "classify",
-        "--ontology",
-        "o",
-        "--facts",
-        name,
-        "--query",
-        "q",
-    ];
-    let words = words(alloc, &texts)?;
-    let end = run(alloc, &words, &mut files, &mut out, &mut err);
-    assert_eq!(rt; end, status);
-    assert!(rt; err.written() == text.as_bytes(), "of {text}");
-    assert!(rt; out.written().is_empty());
-    Ok(())
+}
+
+fn is_bad_pair(alloc: Global, priority: &str, fault: &str) -> Result<bool, Fail> {
+    let texts = Texts { priority, ..RIGHT };
+    let told = format!(in alloc; "cqapri: priority: record {fault}\n")?;
+    let ended = classified(alloc, &texts, &[])?;
+    Ok(ended.is(Status::Refused, "", &told))
 }
 
 #[test]
-fn missing_files_and_faults_have_their_texts(rt: HostRuntime) -> Result<(), Fail> {
+fn the_first_faulty_pair_is_told(rt: HostRuntime) {
     let alloc = rt.alloc();
-    let missing = "cqapri: facts: not there\n";
-    ends_without_facts(&rt, alloc, "p", None, Status::Refused, missing)?;
-    let first = "cqapri: ontology: read fault\n";
-    ends_without_facts(&rt, alloc, "f", Some(0), Status::ReadFault, first)?;
-    let last = "cqapri: query: read fault\n";
-    ends_without_facts(&rt, alloc, "f", Some(2), Status::ReadFault, last)?;
-    Ok(())
-}
-
-#[test]
-fn a_write_that_fails_leaves_a_prefix(rt: HostRuntime) -> Result<(), Fail> {
-    let alloc = rt.alloc();
-    let mut files = shelf(alloc, ONTOLOGY, FACTS, QUERY)?;
-    let mut out = sink(alloc, Some(100))?;
-    let mut err = sink(alloc, None)?;
-    let words = words(alloc, &CLASSIFY)?;
-    let status = run(alloc, &words, &mut files, &mut out, &mut err);
-    assert_eq!(rt; status, Status::WriteFault);
-    let head = r#"{"axioms":1,"budget":0,"facts":2,"k":"head","keep":0,"repairs":"all","version":0}
-{"dropped":[],"k":"#;
-    assert!(rt; out.written() == head.as_bytes());
-    assert!(rt; err.written() == b"cqapri: write fault\n".as_slice());
-    Ok(())
+    bad_pair(&rt, alloc, "1,x\n", "1: bad number");
+    bad_pair(&rt, alloc, "1,3\n", "1: no such record");
+    bad_pair(&rt, alloc, "1,2\n1\n", "2: bad width");
 }
