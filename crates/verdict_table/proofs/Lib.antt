@@ -1,0 +1,3 @@
+mod LawLemmas
+pub mod RowLemmas
+pub mod WholeLemmas
