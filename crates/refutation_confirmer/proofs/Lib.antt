@@ -1,4 +1,3 @@
-pub mod CuttingLemmas
 pub mod FindingLemmas
 pub mod FittingLemmas
 pub mod FoundLemmas

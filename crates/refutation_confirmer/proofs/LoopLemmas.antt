@@ -19,7 +19,7 @@ use Rattle.report_laws.specs.Standing.{Standing, standing_of}
 use Rattle.report_laws.proofs.BreakingLemmas.{broken_from, accepted_from, back}
 use Rattle.report_laws.proofs.ComparisonLemmas.{broken_tells, ended_tells, told}
 use Rattle.report_laws.proofs.StandingLemmas.{all_counted}
-use Rattle.refutation_confirmer.specs.Cutting.{IsBroken, BeginsWith}
+use Rattle.report_lines.specs.Cutting.{IsBroken, BeginsWith}
 use Rattle.refutation_confirmer.specs.Room.{HasRoom}
 use Rattle.refutation_confirmer.proofs.RoomLemmas.{has_room, within_lines}
 use Rattle.refutation_confirmer.specs.State.{State, Fits, TellsNow}

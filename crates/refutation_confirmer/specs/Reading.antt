@@ -10,7 +10,7 @@ use Rattle.report_rules.specs.declared.rule.Rule.TheVariants as rule
 use Rattle.report_rules.specs.Inputs.{report_on}
 use Rattle.report_rules.specs.Accepted.{Right}
 use Rattle.report_rules.specs.Broken.{Breaks}
-use Rattle.refutation_confirmer.specs.Cutting.{IsBroken, BeginsWith}
+use Rattle.report_lines.specs.Cutting.{IsBroken, BeginsWith}
 use Rattle.refutation_confirmer.specs.Room.{HasRoom}
 use Rattle.refutation_confirmer.specs.Saying.{IsYes, IsNo, TellsRoundly}
 use Rattle.refutation_confirmer.specs.State.{State, Fits, TellsNow}

@@ -6,10 +6,10 @@ ghost use Rattle.refutation_confirmer.specs.State.{Fits};
 ghost use Rattle.report_rules.specs.Inputs.{report_on};
 ghost use Rattle.refutation_confirmer.specs.declared.confirmed.ConfirmFault.TheVariants as fault;
 
-use crate::first_line::first_line;
 use crate::reader::Reader;
 use crate::{ConfirmFault, Confirmed};
 use cq_terms::{Cq, Kb, Vocab};
+use report_lines::first_line;
 use report_rules::{Place, Rule};
 use std::alloc::Global;
 

@@ -3,7 +3,6 @@
 
 mod confirmed;
 mod confirming;
-mod first_line;
 mod laws;
 mod none_left_out;
 mod obeying;
