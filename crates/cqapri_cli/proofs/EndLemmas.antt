@@ -1,5 +1,5 @@
 -- The same words and files ask for one end.
-use Rattle.std.proofs.Common.{◌≡◌, ◌⊎◌, inl, inr, ℕ, zero, suc, List, [], ◌∷◌, length, Option, Some, None, refl, sym, ap, ◌∙◌, subst}
+use Rattle.std.proofs.Common.{◌≡◌, ◌⊎◌, inl, inr, ℕ, List, [], ◌∷◌, length, Option, Some, refl, sym, ap, ◌∙◌, subst}
 use Rattle.cq_io.specs.Failing.{Failing}
 use Rattle.cq_terms.specs.Knowledge.{Knowledge}
 use Rattle.cq_terms.specs.Query.{Query}
@@ -23,15 +23,15 @@ use Rattle.cqapri_words.specs.declared.refusal.Refusal.{Refusal}
 use Rattle.cqapri_words.specs.declared.refusal.Refusal.TheVariants as refusal
 use Rattle.input_files.specs.Ends.{IsOf}
 use Rattle.input_files.specs.Fetching.{Held}
-use Rattle.input_files.specs.Inputs.{AreAccepted, IsReportThere}
+use Rattle.input_files.specs.Inputs.{IsReportThere}
 use Rattle.input_files.specs.Laws.{FilesSayOneThing, IsOfContent}
 use Rattle.input_files.specs.Laws as files
 use Rattle.input_files.specs.Meaning.{FilesSay, IsFetchedReport}
-use Rattle.cqapri_cli.specs.EndLaws.{AreOneEnd, ClassifyEndIsOne, ConfirmEndIsOne, EachEndIsOne, SaysOfFiles}
+use Rattle.cqapri_cli.specs.EndLaws.{AreOneEnd, EachEndIsOne, SaysOfFiles}
 use Rattle.cqapri_cli.specs.Ends.{StopsClassify, StopsConfirm}
 use Rattle.cqapri_cli.specs.Limits.{IsWithinLimits, StopsPreparing, limits_of, refusal_of_preparing}
 use Rattle.cqapri_cli.specs.Reading.{SaySome, StopsFetching, StopsReading}
-use Rattle.cqapri_cli.specs.Verdicts.{IsToConfirm, Judges, TellsCycleOf}
+use Rattle.cqapri_cli.specs.Verdicts.{Judges, TellsCycleOf}
 
 -- ---- a cycle and an acyclic priority
 
@@ -84,7 +84,7 @@ module _ (kb : Knowledge) (q : Query) (mode : Repairs) (limits : Limits) (facts 
 -- ---- which refusals come from files
 
 -- a refusal of a file that says something of the files is of its content
-of_content : (f : File) (r : Refusal) → IsOf f r → SaysOfFiles r → IsOfContent r
+pub of_content : (f : File) (r : Refusal) → IsOf f r → SaysOfFiles r → IsOfContent r
 of_content f (refusal.NotThere g) o s = tt
 of_content f (refusal.Faulty wrong) o s = tt
 of_content f (refusal.Limit beyond) o s = tt

@@ -1,3 +1,5 @@
+pub mod BenchLemmas
+pub mod CountLemmas
 pub mod EndLemmas
 pub mod JobLemmas
 pub mod OpenLemmas
@@ -6,4 +8,5 @@ pub mod RightLemmas
 pub mod RunLemmas
 pub mod SpendingLemmas
 pub mod StopLemmas
+pub mod TableLemmas
 pub mod WritingLemmas

@@ -1,8 +1,8 @@
 -- The last line of a report counts the answers with a question left open.
-use Rattle.std.proofs.Common.{◌≡◌, ℕ, suc, ◌<◌, ◌↔◌, ◌⊎◌, inl, inr, List, [], ◌∷◌, ◌++◌, Bool, true, false, true≢false, Contains, cond, refl, sym, subst, ap, ◌∙◌, arith}
+use Rattle.std.proofs.Common.{◌≡◌, ℕ, suc, ◌<◌, ◌⊎◌, inl, inr, List, [], ◌∷◌, ◌++◌, Bool, true, false, true≢false, Contains, cond, refl, sym, subst, ap, ◌∙◌, arith}
 use Rattle.std.specs.Prelude.{◌≢◌, reverse}
 use Rattle.std.proofs.lemmas.List.{reverse-append, reverse-reverse}
-use Rattle.std.proofs.lemmas.List.Elements.{Contains-append_cases, Contains-append_left, Contains-push, Contains-push_cases}
+use Rattle.std.proofs.lemmas.List.Elements.{Contains-append_left, Contains-push_cases}
 use Rattle.cq_meaning.proofs.Members.{Contains-cases, Contains-head, Contains-later, Contains-nil}
 use Rattle.cq_terms.specs.Knowledge.{Knowledge}
 use Rattle.cq_terms.specs.Query.{Query}
@@ -11,8 +11,8 @@ use Rattle.report_text.specs.declared.line.Line.{Line}
 use Rattle.report_text.specs.declared.line.Line.TheVariants as line
 use Rattle.report_text.specs.declared.line.Origin.{Origin}
 use Rattle.report_rules.specs.declared.place.Place.{Place}
-use Rattle.report_rules.specs.declared.place.Place.TheVariants.{AtStart, AfterForget, AtEnd, InAnswer, InTry, AfterCore}
-use Rattle.report_rules.specs.Accepted.{Accepts, AreRight, Right}
+use Rattle.report_rules.specs.declared.place.Place.TheVariants.{AfterForget, AtEnd, InTry, AfterCore}
+use Rattle.report_rules.specs.Accepted.{AreRight}
 use Rattle.report_rules.specs.Inputs.{OneQuery, report_on}
 use Rattle.report_rules.specs.Order.{AreBlocksOver, IsBetweenAnswers, MayCome, MayHaveBlock, place_of}
 use Rattle.report_rules.specs.Told.{count_answers}

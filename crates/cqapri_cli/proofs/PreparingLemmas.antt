@@ -1,5 +1,5 @@
 -- What is asked of a preparation, and what its refusals name.
-use Rattle.std.proofs.Common.{◌≡◌, ℕ, ◌<◌, ◌^◌, List, [], ◌∷◌, length, All, refl, sym, subst}
+use Rattle.std.proofs.Common.{ℕ, ◌<◌, List, [], ◌∷◌, length, All}
 use Rattle.std.proofs.lemmas.List.Elements.{All-cons, All-contains, All-nil, All-weaker}
 use Rattle.cq_terms.specs.Knowledge.{Knowledge, NameFacts}
 use Rattle.cq_terms.specs.Query.{Query}

@@ -1,5 +1,5 @@
 -- Accepted lines are a right report.
-use Rattle.std.proofs.Common.{◌≡◌, ◌≢◌, ℕ, List, [], ◌∷◌, ◌++◌, map, All, Option, Some, refl, sym, subst, ap, ◌∙◌, append-nil}
+use Rattle.std.proofs.Common.{◌≡◌, ◌≢◌, ℕ, List, [], ◌∷◌, ◌++◌, map, All, Some, refl, sym, subst, ap, ◌∙◌, append-nil}
 use Rattle.std.specs.Prelude.{length, reverse}
 use Rattle.std.proofs.lemmas.List.{reverse-reverse}
 use Rattle.cq_terms.specs.Knowledge.{Knowledge}
@@ -17,9 +17,9 @@ use Rattle.report_rules.specs.Broken.{HasCycle}
 use Rattle.report_rules.specs.Inputs.{report_on}
 use Rattle.report_rules.specs.Order.{place_of}
 use Rattle.report_laws.specs.CycleLaws.{LawsOfCycles}
-use Rattle.report_laws.specs.Laws.{AcceptedIsTrue, AreTrueAnswers, IsTrueLine, lines_of, mode_told, tuples_of}
-use Rattle.report_laws.specs.Reports.{AcceptedReportIsOfLines, IsReportOf, TellsCycle}
-use Rattle.cqapri_cli.specs.ReportLaws.{AcceptedIsRight, RightLinesSpend}
+use Rattle.report_laws.specs.Laws.{AcceptedIsTrue, IsTrueLine, lines_of, mode_told, tuples_of}
+use Rattle.report_laws.specs.Reports.{AcceptedReportIsOfLines, TellsCycle}
+use Rattle.cqapri_cli.specs.ReportLaws.{RightLinesSpend}
 use Rattle.cqapri_cli.specs.Headline.{IsRightReport}
 
 -- the laws from which it follows

@@ -1,6 +1,5 @@
 -- Questions are left open only after their whole budget was spent.
-use Rattle.std.proofs.Common.{◌≡◌, ℕ, inl, inr, List, [], ◌∷◌, Option, Some, None, refl, subst}
-use Rattle.report_text.specs.declared.line.How.{How}
+use Rattle.std.proofs.Common.{◌≡◌, ℕ, inl, inr, List, [], ◌∷◌, Option, Some, None, subst}
 use Rattle.report_text.specs.declared.line.How.TheVariants as how
 use Rattle.report_text.specs.declared.line.Line.{Line}
 use Rattle.report_text.specs.declared.line.Line.TheVariants as line
@@ -14,7 +13,7 @@ use Rattle.report_rules.specs.Inputs.{Input}
 use Rattle.report_rules.specs.Live.{learned_for}
 use Rattle.report_rules.specs.Rules.{AnswerIsRight}
 use Rattle.report_rules.specs.Told.{budget_of}
-use Rattle.report_rules.specs.Tries.{Ended, assumed, question_of}
+use Rattle.report_rules.specs.Tries.{Ended, question_of}
 use Rattle.report_rules.specs.TryRules.{DoneIsRight, SpentIsRight}
 use Rattle.cqapri_cli.specs.Spending.{IsOpenWhenSpent, IsSpentTry, SpendBudgets, SpendsBudget}
 

@@ -1,5 +1,5 @@
 -- How a job stops: what it tells of the files, and what it leaves in the output.
-use Rattle.std.proofs.Common.{◌≡◌, ◌⊎◌, inl, inr, ℕ, zero, suc, List, [], length, take, Option, Some, None, IfSome, Result, Ok, Err, IfOk, IfErr, Bool, true, false, refl, sym, ap, ◌∙◌, subst, arith}
+use Rattle.std.proofs.Common.{◌≡◌, inl, inr, ℕ, zero, suc, List, [], length, Option, Some, IfSome, Result, Ok, Err, IfErr, false, refl, sym, ap, ◌∙◌, subst, arith}
 use Rattle.std.specs.Prelude.{OnErr}
 use Rattle.std.specs.Result.{IsErrAnd}
 use Rattle.std.proofs.lemmas.List.{take_all}
@@ -9,10 +9,7 @@ use Rattle.cq_io.specs.Faults.{TellsFault}
 use Rattle.cq_io.specs.Writing.{appended}
 use Rattle.cq_terms.specs.Knowledge.{Knowledge}
 use Rattle.cq_terms.specs.Query.{Query}
-use Rattle.cq_terms.specs.declared.facts.Fact.{Fact}
 use Rattle.cq_terms.specs.declared.names.Vocab.{Vocab}
-use Rattle.preparation.specs.declared.refusal.PrepareRefusal.{PrepareRefusal}
-use Rattle.preparation.specs.declared.refusal.PrepareRefusal.TheVariants as prepare
 use Rattle.refutation_confirmer.specs.Saying.{Says}
 use Rattle.refutation_confirmer.specs.declared.confirmed.Confirmed.{Confirmed}
 use Rattle.cqapri_words.specs.Pieces.{AppendsFirst}
@@ -32,8 +29,8 @@ use Rattle.cqapri_cli.specs.Headline.{Answers, TellsRightReport}
 use Rattle.cqapri_cli.specs.Leaving.{IsOfPreparing, IsOfWriting, LeavesClassify, LeavesConfirm}
 use Rattle.cqapri_cli.specs.Limits.{IsWithinLimits, StopsPreparing}
 use Rattle.cqapri_cli.specs.Parts.{TellsRightLines, WritesPart}
-use Rattle.cqapri_cli.specs.Reading.{AreFetched, StopsFetching, StopsReading}
-use Rattle.cqapri_cli.specs.Verdicts.{IsToConfirm, Judges, StopsJudging, TellsCycleOf, WritesFirstOfVerdict, verdict_text}
+use Rattle.cqapri_cli.specs.Reading.{AreFetched}
+use Rattle.cqapri_cli.specs.Verdicts.{IsToConfirm, Judges, StopsJudging}
 
 -- the error that a `?` passes on
 pub IfErr-of : {T E : Type 0} (P Q : E → Type 0) (r : Result T E) → IsErrAnd r Q → ((e : E) → Q e → P e) → IfErr r P

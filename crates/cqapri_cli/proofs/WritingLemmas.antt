@@ -1,7 +1,9 @@
 -- What the bytes of the output tell of the report.
-use Rattle.std.proofs.Common.{◌≡◌, ◌↔◌, ◌⊎◌, inl, inr, ℕ, zero, suc, List, [], ◌∷◌, ◌++◌, take, Option, Some, None, IfSome, All, refl, sym, ap, ◌∙◌, subst, append-nil}
+use Rattle.std.proofs.Common.{◌≡◌, ◌↔◌, ℕ, zero, suc, List, [], ◌∷◌, ◌++◌, take, Option, Some, None, IfSome, All, refl, sym, ap, ◌∙◌, subst, append-nil}
 use Rattle.std.specs.Prelude.{◌≢◌, IsSomeAnd, String, reverse, string_bytes}
 use Rattle.std.specs.Global.{Global}
+use Rattle.std.proofs.Math.Dec.{eqb-suc-zero}
+use Rattle.std.proofs.Math.Nat.{suc-ne-zero}
 use Rattle.std.proofs.lemmas.List.{reverse-append, reverse-reverse}
 use Rattle.cq_terms.specs.Knowledge.{Knowledge}
 use Rattle.cq_terms.specs.Query.{Query}
@@ -10,7 +12,7 @@ use Rattle.report_text.specs.LineBytes.{AreBytesOf, bytes_of, line_kept, lines_t
 use Rattle.report_text.specs.Lines.{IsWellFormed, line_of}
 use Rattle.report_text.specs.Pieces.{LawsOfPieces}
 use Rattle.report_text.specs.declared.line.Line.{Line}
-use Rattle.report_rules.specs.Accepted.{Accepts, AreRight, Right}
+use Rattle.report_rules.specs.Accepted.{AreRight, Right}
 use Rattle.report_rules.specs.Inputs.{report_on}
 use Rattle.report_rules.specs.Told.{budget_of, keep_of, mode_of}
 use Rattle.answer_desk.specs.declared.plan.Plan.{Plan}
@@ -20,15 +22,20 @@ use Rattle.classifier.specs.declared.summary.Summary.{Summary}
 use Rattle.cqapri_words.specs.Words.{Settings}
 use Rattle.cqapri_words.specs.declared.status.Status.{Status}
 use Rattle.cqapri_words.specs.declared.status.Status.TheVariants as status
+use Rattle.cqapri_cli.specs.Counts.{status_after}
 use Rattle.cqapri_cli.specs.Headline.{TellsRightReport}
 use Rattle.cqapri_cli.specs.Parts.{TellsRightLines}
 use Rattle.cqapri_cli.specs.ReportLaws.{AcceptedIsRight, OpenIsCounted}
-use Rattle.cqapri_cli.specs.OpenAnswers.{LeaveOpen}
 
 -- the lines that bytes tell
 abbrev pub BytesTellLines : Type 0
 BytesTellLines = (written : Option (List ℕ)) (torn : Option Line) (lines : List Line) → IfSome torn IsWellFormed
     → (lines_told written torn ≡ Some lines) ↔ IsSomeAnd written (AreBytesOf lines torn)
+
+-- the status tells whether any answer leaves a question open
+pub open_where_some : (undecided : ℕ) → (status_after undecided ≡ status.Open) ↔ (undecided ≢ 0)
+open_where_some zero = ((λ e. absurd (let both = e in cc)), (λ apart. absurd (apart refl)))
+open_where_some (suc n) = ((λ e none. suc-ne-zero n none), (λ apart. rw (eqb-suc-zero n)))
 
 -- a line whose text was kept is well-formed
 pub kept_formed : LawsOfPieces → (text : Option (String Global)) → IfSome (line_kept text) IsWellFormed

@@ -1,7 +1,7 @@
 -- Why a job ends without its whole answer.
 use Rattle.std.specs.Prelude.{◌≡◌, ◌≢◌, ◌⊎◌, ℕ, List, Option, Result, Err, Bool, true, false}
 use Rattle.cq_io.specs.Failing.{Failing}
-use Rattle.cqapri_words.specs.Words.{FileNames, Settings, AreClassifyWords, AreConfirmWords, NameNothing}
+use Rattle.cqapri_words.specs.Words.{FileNames, Settings}
 use Rattle.cqapri_words.specs.declared.refusal.Refusal.{Refusal}
 use Rattle.cqapri_words.specs.declared.refusal.Refusal.TheVariants as refusal
 use Rattle.cqapri_words.specs.declared.status.Status.{Status}
@@ -27,17 +27,6 @@ StopsConfirm holds failing names name r = (r ≡ refusal.NoMemory)
     ⊎ ((StopsFetching holds failing names name r × SaySome holds failing names (λ kb q vocab. Unit {0}))
     ⊎ (TellsCycleOf holds failing names name r
     ⊎ ((r ≡ refusal.WriteFault) × (verdict : Confirmed) × Judges holds failing names name verdict))))
-
--- the words ask for a job
-abbrev pub NameSome : List (List ℕ) → Type 0
-NameSome words = ((names : FileNames) × (settings : Settings) × AreClassifyWords words names settings)
-    ⊎ ((names : FileNames) × (name : List ℕ) × AreConfirmWords words names name)
-
--- why a job ends by the refusal: the words ask for none, or for one that ends so
-abbrev pub Explains : Option Held → Option Failing → List (List ℕ) → Refusal → Type 0
-Explains holds failing words r = ((r ≡ refusal.Words) × NameNothing words)
-    ⊎ (((names : FileNames) × (settings : Settings) × AreClassifyWords words names settings × StopsClassify holds failing names settings r)
-    ⊎ ((names : FileNames) × (name : List ℕ) × AreConfirmWords words names name × StopsConfirm holds failing names name r))
 
 -- the refusal is a fault of the output
 abbrev pub is_of_output : Refusal → Bool

@@ -1,7 +1,10 @@
+pub mod Bench
 pub mod Complete
+pub mod Counts
 pub mod EndLaws
 pub mod Ends
 pub mod Headline
+pub mod Jobs
 pub mod Leaving
 pub mod Limits
 pub mod OpenAnswers
@@ -9,4 +12,6 @@ pub mod Parts
 pub mod Reading
 pub mod ReportLaws
 pub mod Spending
+pub mod TableLaws
+pub mod Tables
 pub mod Verdicts

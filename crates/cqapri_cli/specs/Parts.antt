@@ -3,7 +3,6 @@ use Rattle.std.specs.Prelude.{◌≡◌, ◌⊎◌, ℕ, List, [], reverse, Opti
 use Rattle.cq_io.specs.Failing.{Failing}
 use Rattle.cq_terms.specs.Knowledge.{Knowledge}
 use Rattle.cq_terms.specs.Query.{Query}
-use Rattle.cq_terms.specs.declared.names.Vocab.{Vocab}
 use Rattle.report_text.specs.LineBytes.{AreBytesOf}
 use Rattle.report_text.specs.declared.line.Line.{Line}
 use Rattle.report_rules.specs.Accepted.{AreRight, Right}

@@ -1,5 +1,5 @@
 -- What the files say, and why they are refused, with the fetches of them that fail.
-use Rattle.std.specs.Prelude.{List, ℕ, suc, Option, IfSome}
+use Rattle.std.specs.Prelude.{List, ℕ, Option, IfSome}
 use Rattle.cq_io.specs.Failing.{Failing}
 use Rattle.cq_terms.specs.Knowledge.{Knowledge}
 use Rattle.cq_terms.specs.Query.{Query}

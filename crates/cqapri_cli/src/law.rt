@@ -1,6 +1,7 @@
 //! What holds of the ends of a job.
 
 ghost use Rattle.cqapri_cli.specs.EndLaws.{EachEndIsOne};
+ghost use Rattle.cqapri_cli.specs.TableLaws.{EachTableEndIsOne};
 
 use input_files::{one_end, one_reading};
 
@@ -10,5 +11,12 @@ pub fn each_end_is_one()
     ensures { EachEndIsOne }
 {
     one_reading();
+    one_end();
+}
+
+/// Two refusals of a table that the same report asks for are the same, a whole report asks for none, and it is one.
+pub fn each_table_end_is_one()
+    ensures { EachTableEndIsOne }
+{
     one_end();
 }

@@ -1,226 +1,134 @@
 -- The jobs that words ask for.
-use Rattle.std.proofs.Common.{◌≡◌, ◌≢◌, ℕ, ◌^◌, ◌-◌, min, true, false, List, [], ◌∷◌, Option, Some, None, IfNone, codes, map, refl, sym, ap, ap₂, ◌∙◌, subst, arith, true≢false}
+use Rattle.std.proofs.Common.{◌≡◌, ◌≢◌, ℕ, Bool, true, false, List, [], ◌∷◌, Option, Some, None, refl, sym, ap, ap₂, ◌∙◌, subst, true≢false, find, map, if◌then◌else◌}
 use Rattle.std.specs.Str.{bytes_eq}
-use Rattle.cq_terms.specs.declared.facts.Repairs.{Repairs}
-use Rattle.cqapri_words.specs.Pairs.{are_right, text_at}
-use Rattle.cqapri_words.specs.Words.{AreClassifyWords, AreConfirmWords, AreInRange, AreNamed, FileNames, Given, HaveOneMeaning, NameNothing, Settings, number_or, repairs_in, settings_by, value_of, words_of}
+use Rattle.std.proofs.lemmas.Slice.Eq.{bytes_eq-Decides}
+use Rattle.clap.specs.Words.{Row, first_of}
+use Rattle.cqapri_words.specs.CommandLine.{faults_in, rows_in, value_in}
+use Rattle.cqapri_words.specs.Jobs.{HasNoJob}
+use Rattle.cqapri_words.specs.Options.{all_commands, are_right, command_named, job_word, option_name}
+use Rattle.cqapri_words.specs.Requests.{AreValuesOf, AskFor, HaveOneMeaning, NameNothing, Request, command_of, classify, confirm, table, bench}
+use Rattle.cqapri_words.specs.Words.{AreNamed, AreTaken, FileNames}
+use Rattle.cqapri_words.specs.declared.options.Command.{Command}
 use Rattle.cqapri_words.specs.declared.options.Command.TheVariants as command
 use Rattle.cqapri_words.specs.declared.options.CommandOption.{CommandOption}
-use Rattle.cqapri_words.specs.declared.options.CommandOption.TheVariants as given
-use Rattle.cqapri_words.proofs.WordLemmas.{same_bytes, number_within, options_in, right_words, same_given, text_at-words, uncapped}
 
--- names and settings under equal values
-named_as : (f g : CommandOption → Option (List ℕ)) → ((option : CommandOption) → f option ≡ g option) → (names : FileNames) → AreNamed f names
-    → AreNamed g names
-named_as f g e names n = record {
-  ontology = sym (e given.Ontology) ∙ n.ontology;
-  facts = sym (e given.Facts) ∙ n.facts;
-  priority = sym (e given.Priority) ∙ n.priority;
-  query = sym (e given.Query) ∙ n.query;
-}
+-- each job has its word
+named_word : (job : Command) → command_named (job_word job) ≡ Some job
+named_word command.Classify = refl
+named_word command.Confirm = refl
+named_word command.Table = refl
+named_word command.Bench = refl
 
-set_as : (f g : CommandOption → Option (List ℕ)) → ((option : CommandOption) → f option ≡ g option) → settings_by f ≡ settings_by g
-set_as f g e =
-    rw (e given.Repairs, e given.Budget, e given.Keep, e given.MaxCqs, e given.MaxSupports, e given.MaxConflicts) refl
-
--- the values in the words of options
-values : (texts : List (List ℕ)) (options : List Given) → words_of options ≡ texts → (option : CommandOption)
-    → text_at texts option ≡ value_of options option
-values texts options e option = ap (λ ts. text_at ts option) (sym e) ∙ text_at-words options option
-
--- right options that name the files are words of `classify`
-pub classify_words : (texts : List (List ℕ)) (names : FileNames) (settings : Settings) → are_right command.Classify texts ≡ true
-    → AreNamed (text_at texts) names → settings ≡ settings_by (text_at texts) → AreClassifyWords (codes "classify" ∷ texts) names settings
-classify_words texts names settings r n s =
-    let has = options_in command.Classify texts r in
-    record {
-      options = has.options;
-      are_given = record { are_words = ap (λ ts. codes "classify" ∷ ts) (sym has.words); are_right = has.right };
-      are_named = named_as (text_at texts) (value_of has.options) (values texts has.options has.words) names n;
-      are_set = s ∙ set_as (text_at texts) (value_of has.options) (values texts has.options has.words);
-    }
-
--- and those of `confirm`, where there is a report
-pub confirm_words : (texts : List (List ℕ)) (names : FileNames) (report : List ℕ) → are_right command.Confirm texts ≡ true
-    → AreNamed (text_at texts) names → text_at texts given.Report ≡ Some report → AreConfirmWords (codes "confirm" ∷ texts) names report
-confirm_words texts names report r n s =
-    let has = options_in command.Confirm texts r in
-    record {
-      options = has.options;
-      are_given = record { are_words = ap (λ ts. codes "confirm" ∷ ts) (sym has.words); are_right = has.right };
-      are_named = named_as (text_at texts) (value_of has.options) (values texts has.options has.words) names n;
-      is_report = sym (values texts has.options has.words given.Report) ∙ s;
-    }
-
--- the words after the first
-rest_of : (first other : List ℕ) (texts others : List (List ℕ)) → first ∷ texts ≡ other ∷ others → others ≡ texts
-rest_of first other texts others e = cc
-
--- words of `classify` are right
-pub classify_right : (texts : List (List ℕ)) (names : FileNames) (settings : Settings) → AreClassifyWords (codes "classify" ∷ texts) names settings
-    → are_right command.Classify texts ≡ true
-classify_right texts names settings w =
-    ap (are_right command.Classify) (sym (rest_of _ _ texts (words_of w.options) w.are_given.are_words))
-    ∙ right_words command.Classify w.options w.are_given.are_right
-
-pub confirm_right : (texts : List (List ℕ)) (names : FileNames) (report : List ℕ) → AreConfirmWords (codes "confirm" ∷ texts) names report
-    → are_right command.Confirm texts ≡ true
-confirm_right texts names report w =
-    ap (are_right command.Confirm) (sym (rest_of _ _ texts (words_of w.options) w.are_given.are_words))
-    ∙ right_words command.Confirm w.options w.are_given.are_right
-
--- they name the files
-pub classify_named : (texts : List (List ℕ)) (names : FileNames) (settings : Settings) → AreClassifyWords (codes "classify" ∷ texts) names settings
-    → AreNamed (text_at texts) names
-classify_named texts names settings w =
-    let e = values texts w.options (rest_of _ _ texts (words_of w.options) w.are_given.are_words) in
-    named_as (value_of w.options) (text_at texts) (λ option. sym (e option)) names w.are_named
-
-pub confirm_named : (texts : List (List ℕ)) (names : FileNames) (report : List ℕ) → AreConfirmWords (codes "confirm" ∷ texts) names report
-    → AreNamed (text_at texts) names
-confirm_named texts names report w =
-    let e = values texts w.options (rest_of _ _ texts (words_of w.options) w.are_given.are_words) in
-    named_as (value_of w.options) (text_at texts) (λ option. sym (e option)) names w.are_named
-
--- and the report
-pub confirm_report : (texts : List (List ℕ)) (names : FileNames) (report : List ℕ) → AreConfirmWords (codes "confirm" ∷ texts) names report
-    → text_at texts given.Report ≡ Some report
-confirm_report texts names report w =
-    values texts w.options (rest_of _ _ texts (words_of w.options) w.are_given.are_words) given.Report ∙ w.is_report
-
--- words that aren't right are those of no job
-pub not_classify : (texts : List (List ℕ)) → are_right command.Classify texts ≡ false → (names : FileNames) (settings : Settings)
-    → ¬ AreClassifyWords (codes "classify" ∷ texts) names settings
-not_classify texts e names settings w = true≢false (sym (classify_right texts names settings w) ∙ e)
-
-pub not_confirm : (texts : List (List ℕ)) → are_right command.Confirm texts ≡ false → (names : FileNames) (report : List ℕ)
-    → ¬ AreConfirmWords (codes "confirm" ∷ texts) names report
-not_confirm texts e names report w = true≢false (sym (confirm_right texts names report w) ∙ e)
-
-pub unnamed_classify : (texts : List (List ℕ)) → ((names : FileNames) → ¬ AreNamed (text_at texts) names) → (names : FileNames) (settings : Settings)
-    → ¬ AreClassifyWords (codes "classify" ∷ texts) names settings
-unnamed_classify texts e names settings w = e names (classify_named texts names settings w)
-
-pub unnamed_confirm : (texts : List (List ℕ)) → ((names : FileNames) → ¬ AreNamed (text_at texts) names) → (names : FileNames) (report : List ℕ)
-    → ¬ AreConfirmWords (codes "confirm" ∷ texts) names report
-unnamed_confirm texts e names report w = e names (confirm_named texts names report w)
-
-pub unreported : (texts : List (List ℕ)) → text_at texts given.Report ≡ None → (names : FileNames) (report : List ℕ)
-    → ¬ AreConfirmWords (codes "confirm" ∷ texts) names report
-unreported texts e names report w = let both : None ≡ Some report = sym e ∙ confirm_report texts names report w in cc
-
--- the first word tells the job
-pub only_classify : (words texts : List (List ℕ)) → words ≡ codes "classify" ∷ texts
-    → ((names : FileNames) (settings : Settings) → ¬ AreClassifyWords (codes "classify" ∷ texts) names settings) → NameNothing words
-only_classify words texts e none = (
-  λ names settings w. none names settings (subst (λ ws. AreClassifyWords ws names settings) e w),
-  λ names report w. let both : codes "classify" ∷ texts ≡ codes "confirm" ∷ words_of w.options = sym e ∙ w.are_given.are_words in cc,
-)
-
-pub only_confirm : (words texts : List (List ℕ)) → words ≡ codes "confirm" ∷ texts
-    → ((names : FileNames) (report : List ℕ) → ¬ AreConfirmWords (codes "confirm" ∷ texts) names report) → NameNothing words
-only_confirm words texts e none = (
-  λ names settings w. let both : codes "confirm" ∷ texts ≡ codes "classify" ∷ words_of w.options = sym e ∙ w.are_given.are_words in cc,
-  λ names report w. none names report (subst (λ ws. AreConfirmWords ws names report) e w),
-)
-
-pub IfNone-classify : {T : Type 0} (o : Option T) (words texts : List (List ℕ)) → words ≡ codes "classify" ∷ texts
-    → IfNone o ((names : FileNames) (settings : Settings) → ¬ AreClassifyWords (codes "classify" ∷ texts) names settings) → IfNone o (NameNothing words)
-IfNone-classify None words texts e none = only_classify words texts e none
-IfNone-classify (Some x) words texts e none = tt
-
-pub IfNone-confirm : {T : Type 0} (o : Option T) (words texts : List (List ℕ)) → words ≡ codes "confirm" ∷ texts
-    → IfNone o ((names : FileNames) (report : List ℕ) → ¬ AreConfirmWords (codes "confirm" ∷ texts) names report) → IfNone o (NameNothing words)
-IfNone-confirm None words texts e none = only_confirm words texts e none
-IfNone-confirm (Some x) words texts e none = tt
-
--- the first word, where it is this one
-pub first_word : {X : Type 0} (bytes : X → List ℕ) (words : List X) (job : X) (rest : List X) (text word : List ℕ) → words ≡ job ∷ rest
-    → text ≡ bytes job → bytes_eq text word ≡ true → map bytes words ≡ word ∷ map bytes rest
-first_word bytes words job rest text word e is same =
-    ap (map bytes) e ∙ ap (λ t. t ∷ map bytes rest) (sym is ∙ same_bytes text word same)
-
-pub no_job : (words : List (List ℕ)) (first : List ℕ) (texts : List (List ℕ)) → words ≡ first ∷ texts → first ≢ codes "classify"
-    → first ≢ codes "confirm" → NameNothing words
-no_job words first texts e one other = (
-  λ names settings w. let both : first ∷ texts ≡ codes "classify" ∷ words_of w.options = sym e ∙ w.are_given.are_words in one (cc),
-  λ names report w. let both : first ∷ texts ≡ codes "confirm" ∷ words_of w.options = sym e ∙ w.are_given.are_words in other (cc),
-)
-
-pub no_words : (words : List (List ℕ)) → words ≡ [] → NameNothing words
-no_words words e = (
-  λ names settings w. let both : [] ≡ codes "classify" ∷ words_of w.options = sym e ∙ w.are_given.are_words in cc,
-  λ names report w. let both : [] ≡ codes "confirm" ∷ words_of w.options = sym e ∙ w.are_given.are_words in cc,
-)
-
--- what the options set, and that it is in range
-pub set_within : (texts : List (List ℕ)) → are_right command.Classify texts ≡ true → AreInRange (settings_by (text_at texts))
-set_within texts r =
-    let budget = number_within command.Classify texts r given.Budget 0 10000000 20000 (λ _. refl) (omega arith) (omega arith) in
-    let keep = number_within command.Classify texts r given.Keep 0 10000000 20000 (λ _. refl) (omega arith) (omega arith) in
-    let queries = number_within command.Classify texts r given.MaxCqs 1 100000 5000 (λ _. refl) (omega arith) (omega arith) in
-    let supports = number_within command.Classify texts r given.MaxSupports 0 1000000 100000 (λ _. refl) (omega arith) (omega arith) in
-    let conflicts = number_within command.Classify texts r given.MaxConflicts 0 2000000 200000 (λ _. refl) (omega arith) (omega arith) in
-    record {
-      budget = budget.1;
-      keep = keep.1;
-      some_queries = queries.0;
-      most_queries = queries.1;
-      most_supports = supports.1;
-      most_conflicts = conflicts.1;
-    }
-
--- the numbers of right words aren't capped
-pub settings_are : (texts : List (List ℕ)) → are_right command.Classify texts ≡ true → (settings : Settings)
-    → settings.repairs ≡ repairs_in (text_at texts given.Repairs) → settings.budget ≡ min (number_or 20000 (text_at texts given.Budget)) (2 ^ 64 - 1)
-    → settings.keep ≡ min (number_or 20000 (text_at texts given.Keep)) (2 ^ 64 - 1)
-    → settings.most_queries ≡ min (number_or 5000 (text_at texts given.MaxCqs)) (2 ^ 64 - 1)
-    → settings.most_supports ≡ min (number_or 100000 (text_at texts given.MaxSupports)) (2 ^ 64 - 1)
-    → settings.most_conflicts ≡ min (number_or 200000 (text_at texts given.MaxConflicts)) (2 ^ 64 - 1) → settings ≡ settings_by (text_at texts)
-settings_are texts r settings p b k q s c =
-    let within = set_within texts r in
-    let b' = uncapped settings.budget _ 10000000 b within.budget (omega arith) in
-    let k' = uncapped settings.keep _ 10000000 k within.keep (omega arith) in
-    let q' = uncapped settings.most_queries _ 100000 q within.most_queries (omega arith) in
-    let s' = uncapped settings.most_supports _ 1000000 s within.most_supports (omega arith) in
-    let c' = uncapped settings.most_conflicts _ 2000000 c within.most_conflicts (omega arith) in
-    same_settings settings (settings_by (text_at texts)) p b' k' q' s' c'
+-- what is found passes the test
+find_passes : {X : Type 0} (p : X → Bool) (xs : List X) (x : X) → find p xs ≡ Some x → p x ≡ true
+find_passes p [] x e = cc
+find_passes p (y ∷ ys) x e = by (p y) refl e (find_passes p ys x)
   where
-    same_settings : (a d : Settings) → a.repairs ≡ d.repairs → a.budget ≡ d.budget → a.keep ≡ d.keep → a.most_queries ≡ d.most_queries
-        → a.most_supports ≡ d.most_supports → a.most_conflicts ≡ d.most_conflicts → a ≡ d
-    same_settings a d p b k q s c =
-        ap (λ (x : Repairs). record {
-          repairs = x;
-          budget = a.budget;
-          keep = a.keep;
-          most_queries = a.most_queries;
-          most_supports = a.most_supports;
-          most_conflicts = a.most_conflicts;
-        }) p
-        ∙ ap₂ (λ (x y : ℕ). record {
-          repairs = d.repairs;
-          budget = x;
-          keep = y;
-          most_queries = a.most_queries;
-          most_supports = a.most_supports;
-          most_conflicts = a.most_conflicts;
-        }) b k
-        ∙ ap₂ (λ (x y : ℕ). record {
-          repairs = d.repairs;
-          budget = d.budget;
-          keep = d.keep;
-          most_queries = x;
-          most_supports = y;
-          most_conflicts = a.most_conflicts;
-        }) q s
-        ∙ ap (λ (x : ℕ). record {
-          repairs = d.repairs;
-          budget = d.budget;
-          keep = d.keep;
-          most_queries = d.most_queries;
-          most_supports = d.most_supports;
-          most_conflicts = x;
-        }) c
+    by : (b : Bool) → p y ≡ b → (if b then Some y else find p ys) ≡ Some x → (find p ys ≡ Some x → p x ≡ true) → p x ≡ true
+    by true test found later = let same : y ≡ x = cc in subst (λ z. p z ≡ true) same test
+    by false test found later = later found
+
+-- a word of a job is the job's
+word_named : (word : List ℕ) (job : Command) → command_named word ≡ Some job → job_word job ≡ word
+word_named word job e = (bytes_eq-Decides (job_word job) word).0 (find_passes (λ j. bytes_eq (job_word j) word) all_commands job e)
+
+-- the words, where the first is a job's
+pub job_words : {X : Type 0} (bytes : X → List ℕ) (words : List X) (first : X) (rest : List X) (text : List ℕ) (job : Command) → words ≡ first ∷ rest
+    → text ≡ bytes first → Some job ≡ command_named text → map bytes words ≡ job_word job ∷ map bytes rest
+job_words bytes words first rest text job e is named =
+    ap (map bytes) e ∙ ap (λ t. t ∷ map bytes rest) (sym is ∙ sym (word_named text job (sym named)))
+
+-- two jobs with one word are one
+same_job : (one other : Command) → job_word one ≡ job_word other → one ≡ other
+same_job one other e =
+    let both : Some one ≡ Some other = sym (named_word one) ∙ ap command_named e ∙ named_word other in cc
+
+-- the first word, and those behind it
+first_word : {X : Type 0} (a b : X) (later others : List X) → a ∷ later ≡ b ∷ others → a ≡ b
+first_word a b later others e = cc
+
+later_words : {X : Type 0} (a b : X) (later others : List X) → a ∷ later ≡ b ∷ others → later ≡ others
+later_words a b later others e = cc
+
+-- what words that ask for a job are, whichever it is
+record Asked (words : List (List ℕ)) (request : Request) : Type 0 where
+  pub rest : List (List ℕ)
+  pub taken : AreTaken (command_of request) words rest
+  pub values : AreValuesOf (value_in (command_of request) rest) request
+
+asked : (words : List (List ℕ)) (request : Request) → AskFor words request → Asked words request
+asked words (classify names settings) w = record { rest = w.rest; taken = w.are_taken; values = (w.are_named, w.are_set) }
+asked words (confirm names report) w = record { rest = w.rest; taken = w.are_taken; values = (w.are_named, w.is_report) }
+asked words (table report) w = record { rest = w.rest; taken = w.are_taken; values = w.is_report }
+asked words (bench size) w = record { rest = w.rest; taken = w.are_taken; values = w.is_size }
+
+pub ask_for : (words rest : List (List ℕ)) (request : Request) → AreTaken (command_of request) words rest
+    → AreValuesOf (value_in (command_of request) rest) request → AskFor words request
+ask_for words rest (classify names settings) t v = record { rest = rest; are_taken = t; are_named = v.0; are_set = v.1 }
+ask_for words rest (confirm names report) t v = record { rest = rest; are_taken = t; are_named = v.0; is_report = v.1 }
+ask_for words rest (table report) t v = record { rest = rest; are_taken = t; is_report = v }
+ask_for words rest (bench size) t v = record { rest = rest; are_taken = t; is_size = v }
+
+-- words that `clap` takes, with right values, ask for the job of these values
+pub words_ask : (job : Command) (rest : List (List ℕ)) (rows : List Row) (request : Request) → faults_in job rest ≡ [] → rows ≡ rows_in job rest
+    → are_right job (λ option. first_of (option_name option) rows) ≡ true → command_of request ≡ job
+    → AreValuesOf (λ option. first_of (option_name option) rows) request → AskFor (job_word job ∷ rest) request
+words_ask job rest rows request taken found right same values =
+    subst (λ j. AskFor (job_word j ∷ rest) request) same
+    (ask_for (job_word (command_of request) ∷ rest) rest request
+    record {
+      are_words = refl;
+      no_fault = ap (λ j. faults_in j rest) same ∙ taken;
+      right = ap (λ j. are_right j (value_in j rest)) same
+          ∙ ap (λ rs. are_right job (λ option. first_of (option_name option) rs)) (sym found) ∙ right;
+    }
+    (subst (λ j. AreValuesOf (value_in j rest) request) (sym same)
+    (subst (λ rs. AreValuesOf (λ option. first_of (option_name option) rs) request) found values)))
+
+-- words of the job that ask for something
+record AskedOf (job : Command) (rest : List (List ℕ)) (request : Request) : Type 0 where
+  pub same : command_of request ≡ job
+  pub taken : faults_in job rest ≡ []
+  pub right : are_right job (value_in job rest) ≡ true
+  pub values : AreValuesOf (value_in job rest) request
+
+asked_of : (job : Command) (rest : List (List ℕ)) (request : Request) → AskFor (job_word job ∷ rest) request → AskedOf job rest request
+asked_of job rest request w =
+    let a = asked (job_word job ∷ rest) request w in
+    let same : command_of request ≡ job = sym (same_job job (command_of request) (first_word _ _ _ _ a.taken.are_words)) in
+    let later : a.rest ≡ rest = sym (later_words _ _ _ _ a.taken.are_words) in
+    record {
+      same = same;
+      taken = ap₂ faults_in (sym same) (sym later) ∙ a.taken.no_fault;
+      right = ap₂ (λ j ws. are_right j (value_in j ws)) (sym same) (sym later) ∙ a.taken.right;
+      values = subst (λ j. AreValuesOf (value_in j rest) request) same
+          (subst (λ ws. AreValuesOf (value_in (command_of request) ws) request) later a.values);
+    }
+
+-- words that `clap` refuses ask for nothing, as those with a value that isn't right and those without a value that is needed
+pub refused : (job : Command) (rest : List (List ℕ)) → faults_in job rest ≢ [] → NameNothing (job_word job ∷ rest)
+refused job rest fault request w = fault (asked_of job rest request w).taken
+
+pub not_right : (job : Command) (rest : List (List ℕ)) (rows : List Row) → rows ≡ rows_in job rest
+    → are_right job (λ option. first_of (option_name option) rows) ≡ false → NameNothing (job_word job ∷ rest)
+not_right job rest rows found wrong request w =
+    true≢false (sym (asked_of job rest request w).right
+    ∙ ap (λ rs. are_right job (λ option. first_of (option_name option) rs)) (sym found) ∙ wrong)
+
+pub nothing_given : (job : Command) (rest : List (List ℕ)) (rows : List Row) → rows ≡ rows_in job rest
+    → HasNoJob job (λ option. first_of (option_name option) rows) → NameNothing (job_word job ∷ rest)
+nothing_given job rest rows found missing request w =
+    let a = asked_of job rest request w in
+    missing request a.same (subst (λ rs. AreValuesOf (λ option. first_of (option_name option) rs) request) (sym found) a.values)
+
+-- no words ask for nothing, as those of which the first is no job's
+pub no_words : NameNothing []
+no_words request w = let e = (asked [] request w).taken.are_words in cc
+
+pub no_job : (first : List ℕ) (rest : List (List ℕ)) → command_named first ≡ None → NameNothing (first ∷ rest)
+no_job first rest none request w =
+    let word : first ≡ job_word (command_of request) = first_word _ _ _ _ (asked (first ∷ rest) request w).taken.are_words in
+    let both : None ≡ Some (command_of request) = sym none ∙ ap command_named word ∙ named_word (command_of request) in cc
 
 -- names are determined by the values
 same_names : (values : CommandOption → Option (List ℕ)) (names other : FileNames) → AreNamed values names → AreNamed values other → names ≡ other
@@ -235,22 +143,36 @@ same_names values names other a b =
     ∙ ap₂ (λ (x : Option (List ℕ)) (y : List ℕ). record { ontology = other.ontology; facts = other.facts; priority = x; query = y })
     (sym a.priority ∙ b.priority) q
 
+-- so is the job
+same_request : (values : CommandOption → Option (List ℕ)) (request other : Request) → command_of request ≡ command_of other
+    → AreValuesOf values request → AreValuesOf values other → request ≡ other
+same_request values (classify names settings) (classify other others) e a b = ap₂ classify (same_names values names other a.0 b.0) (a.1 ∙ sym b.1)
+same_request values (confirm names report) (confirm other text) e a b =
+    let both : Some report ≡ Some text = sym a.1 ∙ b.1 in
+    let same : report ≡ text = cc in ap₂ confirm (same_names values names other a.0 b.0) same
+same_request values (table report) (table text) e a b =
+    let both : Some report ≡ Some text = sym a ∙ b in
+    let same : report ≡ text = cc in ap table same
+same_request values (bench size) (bench other) e a b =
+    let both : Some size ≡ Some other = sym a ∙ b in
+    let same : size ≡ other = cc in ap bench same
+same_request values (classify names settings) (confirm other text) e a b = cc
+same_request values (classify names settings) (table text) e a b = cc
+same_request values (classify names settings) (bench size) e a b = cc
+same_request values (confirm names report) (classify other others) e a b = cc
+same_request values (confirm names report) (table text) e a b = cc
+same_request values (confirm names report) (bench size) e a b = cc
+same_request values (table report) (classify other others) e a b = cc
+same_request values (table report) (confirm other text) e a b = cc
+same_request values (table report) (bench size) e a b = cc
+same_request values (bench size) (classify other others) e a b = cc
+same_request values (bench size) (confirm other text) e a b = cc
+same_request values (bench size) (table text) e a b = cc
+
 -- words have one meaning
 pub one_meaning : HaveOneMeaning
-one_meaning = record {
-  classify = λ words names other settings others a b.
-      let e : a.options ≡ b.options = same_given a.options b.options (rest_of _ _ _ _ (sym b.are_given.are_words ∙ a.are_given.are_words)) in
-      let named : AreNamed (value_of b.options) names = subst (λ gs. AreNamed (value_of gs) names) e a.are_named in (
-        same_names (value_of b.options) names other named b.are_named,
-        a.are_set ∙ ap (λ gs. settings_by (value_of gs)) e ∙ sym b.are_set,
-      );
-  confirm = λ words names other report text a b.
-      let e : a.options ≡ b.options = same_given a.options b.options (rest_of _ _ _ _ (sym b.are_given.are_words ∙ a.are_given.are_words)) in
-      let named : AreNamed (value_of b.options) names = subst (λ gs. AreNamed (value_of gs) names) e a.are_named in
-      let both : Some report ≡ Some text = sym a.is_report ∙ ap (λ gs. value_of gs given.Report) e ∙ b.is_report in (
-        same_names (value_of b.options) names other named b.are_named,
-        (cc),
-      );
-  not_both = λ words names other settings report a b.
-      let both : codes "classify" ∷ words_of a.options ≡ codes "confirm" ∷ words_of b.options = sym a.are_given.are_words ∙ b.are_given.are_words in cc;
-}
+one_meaning words request other w v =
+    let a = asked words request w in
+    let moved : AskFor (job_word (command_of request) ∷ a.rest) other = subst (λ ws. AskFor ws other) a.taken.are_words v in
+    let b = asked_of (command_of request) a.rest other moved in
+    same_request (value_in (command_of request) a.rest) request other (sym b.same) a.values b.values

@@ -1,4 +1,7 @@
+mod CommandLemmas
 mod CycleLemmas
+mod GivenLemmas
 mod JobLemmas
 mod PieceLemmas
-mod WordLemmas
+mod PlainLemmas
+mod ValueLemmas

@@ -16,3 +16,4 @@ fault_text (fault.NoSuchRecord number) = codes "priority: record " ++ (decimal n
 fault_text (fault.BadToken at) = codes "query: byte " ++ (decimal at ++ codes ": bad token")
 fault_text (fault.RepeatedHead place) = codes "query: head place " ++ (decimal place ++ codes ": repeated")
 fault_text (fault.HeadNotInBody place) = codes "query: head place " ++ (decimal place ++ codes ": not in body")
+fault_text (fault.ReportLine line) = codes "report: line " ++ (decimal line ++ codes ": bad line")

@@ -1,6 +1,12 @@
 -- The jobs that the words ask for, as contracts see them.
-use Rattle.std.specs.Prelude.{ℕ, List, option_map}
-use Rattle.cqapri_words.specs.Words.{AreClassifyWords, AreConfirmWords, AreInRange, FileNames, Settings}
+use Rattle.std.specs.Prelude.{◌≡◌, ◌⊎◌, ℕ, List, Option, option_map}
+use Rattle.cqapri_words.specs.Requests as request
+use Rattle.cqapri_words.specs.Requests.{AreValuesOf, AskFor, IsInRange, Request, command_of}
+use Rattle.cqapri_words.specs.Words.{FileNames, Settings}
+use Rattle.cqapri_words.specs.declared.options.Command.{Command}
+use Rattle.cqapri_words.specs.declared.options.CommandOption.{CommandOption}
+use Rattle.cqapri_words.specs.declared.refusal.Refusal.{Refusal}
+use Rattle.cqapri_words.specs.declared.refusal.Refusal.TheVariants as refusal
 use Rattle.cqapri_words.specs.declared.words.Job.{Job}
 use Rattle.cqapri_words.specs.declared.words.Job.TheVariants as job
 use Rattle.cqapri_words.specs.declared.words.Options.{Options}
@@ -26,12 +32,29 @@ settings_in options = record {
   most_conflicts = options.most_conflicts;
 }
 
+-- the job as a request
+abbrev pub request_of : Job → Request
+request_of (job.Classify paths options) = request.classify (names_in paths) (settings_in options)
+request_of (job.Confirm paths report) = request.confirm (names_in paths) report.now
+request_of (job.Table report) = request.table report.now
+request_of (job.Bench size) = request.bench size
+
 -- the words ask for this job
 abbrev pub AreWordsOf : List (List ℕ) → Job → Type 0
-AreWordsOf words (job.Classify paths options) = AreClassifyWords words (names_in paths) (settings_in options)
-AreWordsOf words (job.Confirm paths report) = AreConfirmWords words (names_in paths) report.now
+AreWordsOf words one = AskFor words (request_of one)
 
--- the settings of the job are in range
-abbrev pub IsInRange : Job → Type 0
-IsInRange (job.Classify paths options) = AreInRange (settings_in options)
-IsInRange (job.Confirm paths report) = Unit {0}
+-- the numbers of the job are in range
+abbrev pub HasRange : Job → Type 0
+HasRange one = IsInRange (request_of one)
+
+-- the words are none of the program's, or memory ran out
+abbrev pub IsOfWords : Refusal → Type 0
+IsOfWords r = (r ≡ refusal.Words) ⊎ (r ≡ refusal.NoMemory)
+
+-- the job is one of this word, has these values, and its numbers are in range
+abbrev pub IsJobOf : Command → (CommandOption → Option (List ℕ)) → Job → Type 0
+IsJobOf word values one = (command_of (request_of one) ≡ word) × AreValuesOf values (request_of one) × HasRange one
+
+-- no job of this word has these values
+abbrev pub HasNoJob : Command → (CommandOption → Option (List ℕ)) → Type 0
+HasNoJob word values = (asked : Request) → command_of asked ≡ word → ¬ AreValuesOf values asked

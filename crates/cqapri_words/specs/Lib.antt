@@ -1,11 +1,13 @@
+pub mod CommandLine
 pub mod Cycles
 pub mod Faults
 pub mod Files
+pub mod GivenWords
 pub mod Jobs
 pub mod Numbers
 pub mod Options
-pub mod Pairs
 pub mod Pieces
 pub mod Refusals
+pub mod Requests
 pub mod Status
 pub mod Words

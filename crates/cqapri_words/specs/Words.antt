@@ -1,10 +1,11 @@
 -- What the words ask for.
-use Rattle.std.specs.Prelude.{◌≡◌, ℕ, ◌≤◌, List, [], ◌∷◌, Option, Some, None, IsTrue, codes, if◌then◌else◌}
+use Rattle.std.specs.Prelude.{◌≡◌, ℕ, ◌≤◌, true, List, [], ◌∷◌, Option, Some, None, codes, if◌then◌else◌, option_map}
 use Rattle.std.specs.Str.{bytes_eq}
 use Rattle.cq_terms.specs.declared.facts.Repairs.{Repairs}
 use Rattle.cq_terms.specs.declared.facts.Repairs.TheVariants as mode
+use Rattle.cqapri_words.specs.CommandLine.{faults_in, value_in}
 use Rattle.cqapri_words.specs.Numbers.{number_in}
-use Rattle.cqapri_words.specs.Options.{is_right, job_word, option_word, takes}
+use Rattle.cqapri_words.specs.Options.{are_right, job_word}
 use Rattle.cqapri_words.specs.declared.options.Command.{Command}
 use Rattle.cqapri_words.specs.declared.options.Command.TheVariants as command
 use Rattle.cqapri_words.specs.declared.options.CommandOption.{CommandOption}
@@ -27,31 +28,11 @@ pub record Settings : Type 0 where
   pub most_supports : ℕ
   pub most_conflicts : ℕ
 
--- an option with its value
-pub record Given : Type 0 where
-  pub option : CommandOption
-  pub value : List ℕ
-
--- the words of options with their values
-abbrev pub words_of : List Given → List (List ℕ)
-words_of [] = []
-words_of (one ∷ others) = option_word one.option ∷ one.value ∷ words_of others
-
--- the value of an option, where it is given
-abbrev pub value_of : List Given → CommandOption → Option (List ℕ)
-value_of [] option = None
-value_of (one ∷ others) option = if bytes_eq (option_word option) (option_word one.option) then Some one.value else value_of others option
-
--- each option is one that the job takes, has a right value, and isn't given again
-abbrev pub AreRight : Command → List Given → Type 0
-AreRight job [] = Unit {0}
-AreRight job (one ∷ others) =
-    IsTrue (takes job one.option) × IsTrue (is_right one.option one.value) × (value_of others one.option ≡ None) × AreRight job others
-
--- the words are the job's, with these options
-pub record AreGiven (job : Command) (words : List (List ℕ)) (options : List Given) : Type 0 where
-  pub are_words : words ≡ job_word job ∷ words_of options
-  pub are_right : AreRight job options
+-- behind the job's word stand words that `clap` takes as options of the job, and each value is right
+pub record AreTaken (job : Command) (words rest : List (List ℕ)) : Type 0 where
+  pub are_words : words ≡ job_word job ∷ rest
+  pub no_fault : faults_in job rest ≡ []
+  pub right : are_right job (value_in job rest) ≡ true
 
 -- the values of the options name these files; all but the priority must be named
 pub record AreNamed (values : CommandOption → Option (List ℕ)) (names : FileNames) : Type 0 where
@@ -81,25 +62,35 @@ settings_by values = record {
   most_conflicts = number_or 200000 (values given.MaxConflicts);
 }
 
+-- the settings where no option is given
+abbrev pub default_settings : Settings
+default_settings = settings_by (λ option. None)
+
 -- the words ask to answer a query over these files under these settings
 pub record AreClassifyWords (words : List (List ℕ)) (names : FileNames) (settings : Settings) : Type 0 where
-  pub options : List Given
-  pub are_given : AreGiven command.Classify words options
-  pub are_named : AreNamed (value_of options) names
-  pub are_set : settings ≡ settings_by (value_of options)
+  pub rest : List (List ℕ)
+  pub are_taken : AreTaken command.Classify words rest
+  pub are_named : AreNamed (value_in command.Classify rest) names
+  pub are_set : settings ≡ settings_by (value_in command.Classify rest)
 
 -- the words ask to confirm this report over these files
 pub record AreConfirmWords (words : List (List ℕ)) (names : FileNames) (report : List ℕ) : Type 0 where
-  pub options : List Given
-  pub are_given : AreGiven command.Confirm words options
-  pub are_named : AreNamed (value_of options) names
-  pub is_report : value_of options given.Report ≡ Some report
+  pub rest : List (List ℕ)
+  pub are_taken : AreTaken command.Confirm words rest
+  pub are_named : AreNamed (value_in command.Confirm rest) names
+  pub is_report : value_in command.Confirm rest given.Report ≡ Some report
 
--- the words ask for nothing
-abbrev pub NameNothing : List (List ℕ) → Type 0
-NameNothing words =
-    ((names : FileNames) (settings : Settings) → ¬ AreClassifyWords words names settings)
-    × ((names : FileNames) (report : List ℕ) → ¬ AreConfirmWords words names report)
+-- the words ask for the table of this report
+pub record AreTableWords (words : List (List ℕ)) (report : List ℕ) : Type 0 where
+  pub rest : List (List ℕ)
+  pub are_taken : AreTaken command.Table words rest
+  pub is_report : value_in command.Table rest given.Report ≡ Some report
+
+-- the words ask for a run of the generated input of this size
+pub record AreBenchWords (words : List (List ℕ)) (size : ℕ) : Type 0 where
+  pub rest : List (List ℕ)
+  pub are_taken : AreTaken command.Bench words rest
+  pub is_size : option_map number_in (value_in command.Bench rest given.Size) ≡ Some size
 
 -- the numbers that settings may have
 pub record AreInRange (settings : Settings) : Type 0 where
@@ -109,12 +100,3 @@ pub record AreInRange (settings : Settings) : Type 0 where
   pub most_queries : settings.most_queries ≤ 100000
   pub most_supports : settings.most_supports ≤ 1000000
   pub most_conflicts : settings.most_conflicts ≤ 2000000
-
--- words have one meaning
-pub record HaveOneMeaning : Type 0 where
-  pub classify : (words : List (List ℕ)) (names other : FileNames) (settings others : Settings) → AreClassifyWords words names settings
-      → AreClassifyWords words other others → (names ≡ other) × (settings ≡ others)
-  pub confirm : (words : List (List ℕ)) (names other : FileNames) (report text : List ℕ) → AreConfirmWords words names report
-      → AreConfirmWords words other text → (names ≡ other) × (report ≡ text)
-  pub not_both : (words : List (List ℕ)) (names other : FileNames) (settings : Settings) (report : List ℕ) → AreClassifyWords words names settings
-      → ¬ AreConfirmWords words other report

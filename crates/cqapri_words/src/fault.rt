@@ -29,25 +29,36 @@ pub enum Fault {
     RepeatedHead { place: u32 },
     /// The place in the head of the query whose variable isn't in the body.
     HeadNotInBody { place: u32 },
+    /// The line at which a report isn't whole lines with one end at the end.
+    ReportLine { line: u64 },
 }
 
 impl Fault {
     /// The text of the fault: what stands before its number, the number, and what stands after it.
-    pub(crate) fn parts(self) -> (&'static str, u32, &'static str)
+    pub(crate) fn parts(self) -> (&'static str, u64, &'static str)
         ensures exact { result.0.now ++ (decimal result.1 ++ result.2.now) ≡ fault_text self }
     {
         match self {
-            Fault::LineNotUtf8 { line } => ("ontology: line ", line, ": not UTF-8"),
-            Fault::BadLine { line } => ("ontology: line ", line, ": bad line"),
-            Fault::BadWidth { number } => ("facts: record ", number, ": bad width"),
-            Fault::RecordNotUtf8 { number } => ("facts: record ", number, ": not UTF-8"),
-            Fault::EmptyField { number } => ("facts: record ", number, ": empty field"),
-            Fault::PairWidth { number } => ("priority: record ", number, ": bad width"),
-            Fault::BadNumber { number } => ("priority: record ", number, ": bad number"),
-            Fault::NoSuchRecord { number } => ("priority: record ", number, ": no such record"),
-            Fault::BadToken { at } => ("query: byte ", at, ": bad token"),
-            Fault::RepeatedHead { place } => ("query: head place ", place, ": repeated"),
-            Fault::HeadNotInBody { place } => ("query: head place ", place, ": not in body"),
+            Fault::LineNotUtf8 { line } => ("ontology: line ", u64::from(line), ": not UTF-8"),
+            Fault::BadLine { line } => ("ontology: line ", u64::from(line), ": bad line"),
+            Fault::BadWidth { number } => ("facts: record ", u64::from(number), ": bad width"),
+            Fault::RecordNotUtf8 { number } => ("facts: record ", u64::from(number), ": not UTF-8"),
+            Fault::EmptyField { number } => ("facts: record ", u64::from(number), ": empty field"),
+            Fault::PairWidth { number } => ("priority: record ", u64::from(number), ": bad width"),
+            Fault::BadNumber { number } => ("priority: record ", u64::from(number), ": bad number"),
+            Fault::NoSuchRecord { number } => (
+                "priority: record ",
+                u64::from(number),
+                ": no such record",
+            ),
+            Fault::BadToken { at } => ("query: byte ", u64::from(at), ": bad token"),
+            Fault::RepeatedHead { place } => ("query: head place ", u64::from(place), ": repeated"),
+            Fault::HeadNotInBody { place } => (
+                "query: head place ",
+                u64::from(place),
+                ": not in body",
+            ),
+            Fault::ReportLine { line } => ("report: line ", line, ": bad line"),
         }
     }
 }

@@ -1,6 +1,7 @@
 //! The words of the program, its statuses, and the texts of its refusals.
 #![tactic(auto)]
 
+mod command_line;
 mod cycle;
 mod fact_texts;
 mod fault;
@@ -8,7 +9,6 @@ mod files;
 mod law;
 mod number;
 mod options;
-mod pairs;
 mod pieces;
 mod refusal;
 mod status;
@@ -17,7 +17,7 @@ mod words;
 pub use cycle::Cycle;
 pub use fault::Fault;
 pub use files::{File, Quantity};
-pub use law::one_meaning;
+pub use law::{one_meaning, takes_plain_words};
 pub use options::{Command, CommandOption};
 pub use pieces::write_pieces;
 pub use refusal::Refusal;

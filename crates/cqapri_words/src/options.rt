@@ -1,8 +1,8 @@
-//! The options of the jobs, and the values that are right for them.
+//! The jobs with their options, and the values that are right for an option.
 
 ghost use Rattle.std.specs.Prelude.{◌≡◌, find};
 ghost use Rattle.std.specs.Str.{bytes_eq};
-ghost use Rattle.cqapri_words.specs.Options.{is_name, is_right, option_named, option_word, takes};
+ghost use Rattle.cqapri_words.specs.Options.{command_named, is_required, is_right, job_word, option_name, options_of};
 
 use crate::number::is_number_in;
 
@@ -13,9 +13,13 @@ pub enum Command {
     Classify,
     /// To confirm a report.
     Confirm,
+    /// To print the verdicts of a report as a table.
+    Table,
+    /// To run the generated input of a size.
+    Bench,
 }
 
-/// An option of a job. A value stands behind each.
+/// An option of a job. Each has a value.
 #[derive(Clone, Copy, Debug, PartialEq, Eq)]
 pub enum CommandOption {
     /// The file of the axioms.
@@ -40,14 +44,22 @@ pub enum CommandOption {
     MaxSupports,
     /// How many conflicts there may be.
     MaxConflicts,
+    /// How many individuals the generated input has.
+    Size,
 }
 
-const OPTIONS: [CommandOption; 11] = [
+const COMMANDS: [Command; 4] = [
+    Command::Classify,
+    Command::Confirm,
+    Command::Table,
+    Command::Bench,
+];
+
+static CLASSIFY_OPTIONS: [CommandOption; 10] = [
     CommandOption::Ontology,
     CommandOption::Facts,
-    CommandOption::Priority,
     CommandOption::Query,
-    CommandOption::Report,
+    CommandOption::Priority,
     CommandOption::Repairs,
     CommandOption::Budget,
     CommandOption::Keep,
@@ -56,57 +68,84 @@ const OPTIONS: [CommandOption; 11] = [
     CommandOption::MaxConflicts,
 ];
 
-impl CommandOption {
-    /// The word of the option.
+static CONFIRM_OPTIONS: [CommandOption; 5] = [
+    CommandOption::Ontology,
+    CommandOption::Facts,
+    CommandOption::Query,
+    CommandOption::Report,
+    CommandOption::Priority,
+];
+
+static TABLE_OPTIONS: [CommandOption; 1] = [CommandOption::Report];
+
+static BENCH_OPTIONS: [CommandOption; 1] = [CommandOption::Size];
+
+impl Command {
+    /// The word of the job.
     pub fn word(self) -> &'static str
-        ensures exact { result.now ≡ option_word self }
+        ensures exact { result.now ≡ job_word self }
     {
         match self {
-            CommandOption::Ontology => "--ontology",
-            CommandOption::Facts => "--facts",
-            CommandOption::Priority => "--priority",
-            CommandOption::Query => "--query",
-            CommandOption::Report => "--report",
-            CommandOption::Repairs => "--repairs",
-            CommandOption::Budget => "--budget",
-            CommandOption::Keep => "--keep",
-            CommandOption::MaxCqs => "--max-cqs",
-            CommandOption::MaxSupports => "--max-supports",
-            CommandOption::MaxConflicts => "--max-conflicts",
+            Command::Classify => "classify",
+            Command::Confirm => "confirm",
+            Command::Table => "table",
+            Command::Bench => "bench",
         }
     }
 
-    /// The option of this word.
-    pub(crate) fn named(word: &str) -> Option<CommandOption>
-        ensures exact { result ≡ option_named word.now }
+    /// The job of this word.
+    pub(crate) fn named(word: &str) -> Option<Command>
+        ensures exact { result ≡ command_named word.now }
     {
-        first_named(&OPTIONS, word)
+        first_named(&COMMANDS, word)
     }
 
-    /// Whether this is the word of the option.
-    pub(crate) fn is_word(self, word: &str) -> bool
-        ensures exact { result ≡ bytes_eq (option_word self) word.now }
-    {
-        self.word() == word
-    }
-
-    /// Whether the job takes the option.
-    pub(crate) fn is_of(self, job: Command) -> bool
-        ensures exact { result ≡ takes job self }
+    /// The options of the job.
+    pub(crate) fn options(self) -> &'static [CommandOption]
+        ensures exact { result.now ≡ options_of self }
     {
         match self {
+            Command::Classify => CLASSIFY_OPTIONS.as_slice(),
+            Command::Confirm => CONFIRM_OPTIONS.as_slice(),
+            Command::Table => TABLE_OPTIONS.as_slice(),
+            Command::Bench => BENCH_OPTIONS.as_slice(),
+        }
+    }
+}
+
+impl CommandOption {
+    /// The name of the option, which stands behind `--`.
+    pub fn name(self) -> &'static str
+        ensures exact { result.now ≡ option_name self }
+    {
+        match self {
+            CommandOption::Ontology => "ontology",
+            CommandOption::Facts => "facts",
+            CommandOption::Priority => "priority",
+            CommandOption::Query => "query",
+            CommandOption::Report => "report",
+            CommandOption::Repairs => "repairs",
+            CommandOption::Budget => "budget",
+            CommandOption::Keep => "keep",
+            CommandOption::MaxCqs => "max-cqs",
+            CommandOption::MaxSupports => "max-supports",
+            CommandOption::MaxConflicts => "max-conflicts",
+            CommandOption::Size => "size",
+        }
+    }
+
+    /// Whether a job that has the option needs it.
+    pub(crate) fn is_required(self) -> bool
+        ensures exact { result ≡ is_required self }
+    {
+        matches!(
+            self,
             CommandOption::Ontology
-            | CommandOption::Facts
-            | CommandOption::Priority
-            | CommandOption::Query => true,
-            CommandOption::Report => job == Command::Confirm,
-            CommandOption::Repairs
-            | CommandOption::Budget
-            | CommandOption::Keep
-            | CommandOption::MaxCqs
-            | CommandOption::MaxSupports
-            | CommandOption::MaxConflicts => job == Command::Classify,
-        }
+                | CommandOption::Facts
+                | CommandOption::Query
+                | CommandOption::Report
+                | CommandOption::Size
+        )
     }
 
     /// Whether the value is right for the option.
@@ -120,20 +159,21 @@ impl CommandOption {
             CommandOption::MaxCqs => is_number_in(value.as_bytes(), 1, 100_000),
             CommandOption::MaxSupports => is_number_in(value.as_bytes(), 0, 1_000_000),
             CommandOption::MaxConflicts => is_number_in(value.as_bytes(), 0, 2_000_000),
+            CommandOption::Size => is_number_in(value.as_bytes(), 1, 20_000),
             CommandOption::Ontology
             | CommandOption::Facts
             | CommandOption::Priority
             | CommandOption::Query
-            | CommandOption::Report => is_name(value.as_bytes()),
+            | CommandOption::Report => true,
         }
     }
 }
 
-/// The first of the options with this word.
-fn first_named(options: &[CommandOption], word: &str) -> Option<CommandOption>
-    ensures exact { result ≡ find (λ option. bytes_eq (option_word option) word.now) options.now }
+/// The first of the jobs with this word.
+fn first_named(jobs: &[Command], word: &str) -> Option<Command>
+    ensures exact { result ≡ find (λ job. bytes_eq (job_word job) word.now) jobs.now }
 {
-    options.iter().copied().find(|option| option.is_word(word))
+    jobs.iter().copied().find(|job| is_text(job.word(), word))
 }
 
 /// Whether the texts are equal.
@@ -141,14 +181,4 @@ pub(crate) fn is_text(text: &str, other: &str) -> bool
     ensures exact { result ≡ bytes_eq text.now other.now }
 {
     text == other
-}
-
-/// Whether the text may name a file.
-fn is_name(text: &[u8]) -> bool
-    ensures exact { result ≡ is_name text.now }
-{
-    match text.split_first() {
-        Some((first, _)) => *first != b'-',
-        None => false,
-    }
 }

@@ -1,17 +1,21 @@
 //! What the words ask for.
 
-ghost use Rattle.std.specs.Prelude.{◌≡◌, ◌∷◌, ◌-◌, ◌^◌, ℕ, List, Some, true, min, map, codes, string_bytes, IfSome, IfNone};
+ghost use Rattle.std.specs.Prelude.{◌≡◌, ◌∷◌, ◌-◌, ◌^◌, Some, true, min, map, string_bytes, IfErr, IfNone, IfOk, IfSome};
 ghost use Rattle.cqapri_words.specs.declared.options.Command.TheVariants as command;
 ghost use Rattle.cqapri_words.specs.declared.options.CommandOption.TheVariants as given;
-ghost use Rattle.cqapri_words.specs.Jobs.{AreWordsOf, IsInRange, names_in, settings_in};
-ghost use Rattle.cqapri_words.specs.Pairs.{are_right, text_at};
-ghost use Rattle.cqapri_words.specs.Words.{AreClassifyWords, AreConfirmWords, AreInRange, AreNamed, FileNames, NameNothing, Settings, number_or, repairs_in, settings_by};
+ghost use Rattle.cqapri_words.specs.CommandLine.{values_of};
+ghost use Rattle.cqapri_words.specs.Jobs.{AreWordsOf, HasNoJob, HasRange, IsJobOf, IsOfWords, names_in, settings_in};
+ghost use Rattle.cqapri_words.specs.Options.{are_right, job_word};
+ghost use Rattle.cqapri_words.specs.Requests.{NameNothing};
+ghost use Rattle.cqapri_words.specs.Words.{AreInRange, AreNamed, FileNames, default_settings, number_or, repairs_in, settings_by};
 
+use crate::command_line::{are_right, matches_of, text_of};
 use crate::number::number_in;
 use crate::options::is_text;
-use crate::pairs::{are_right, text_at};
-use crate::{Command, CommandOption};
+use crate::{Command, CommandOption, Refusal};
+use clap::ArgMatches;
 use cq_terms::Repairs;
+use std::alloc::Global;
 
 /// The names of the files that a job reads.
 #[derive(Clone, Copy, Debug)]
@@ -43,6 +47,24 @@ pub struct Options {
     pub most_conflicts: u64,
 }
 
+impl Options {
+    /// What holds where no option is given: `pareto`, a budget and kept clauses of 20,000, 5,000 queries, 100,000 supports and
+    /// 200,000 conflicts.
+    pub fn defaults() -> Options
+        ensures exact { settings_in result ≡ default_settings }
+        ensures in_range { AreInRange (settings_in result) }
+    {
+        Options {
+            repairs: Repairs::Pareto,
+            budget: 20_000,
+            keep: 20_000,
+            most_queries: 5_000,
+            most_supports: 100_000,
+            most_conflicts: 200_000,
+        }
+    }
+}
+
 /// A job with the names of its files.
 #[derive(Clone, Copy, Debug)]
 pub enum Job<'a> {
@@ -50,103 +72,155 @@ pub enum Job<'a> {
     Classify(Paths<'a>, Options),
     /// To confirm the report of this name.
     Confirm(Paths<'a>, &'a str),
+    /// To print the verdicts of the report of this name as a table.
+    Table(&'a str),
+    /// To run the generated input of so many individuals.
+    Bench(u32),
 }
 
-/// The job that the words ask for, or `None` where they are none of the program's.
-pub fn job_of(words: &[String]) -> Option<Job<'_>>
-    ensures found { IfSome result (AreWordsOf (map string_bytes words.now)) }
-    ensures in_range { IfSome result IsInRange }
-    ensures none { IfNone result (NameNothing (map string_bytes words.now)) }
+/// The job that the words ask for. The error is `Words` or `NoMemory`. Where there is no word, or the first is no job's, no memory is taken.
+pub fn job_of(alloc: Global, words: &[String]) -> Result<Job<'_>, Refusal>
+    ensures found { IfOk result (AreWordsOf (map string_bytes words.now)) }
+    ensures in_range { IfOk result HasRange }
+    ensures none { IfErr result (λ r. r ≡ Refusal.Words → NameNothing (map string_bytes words.now)) }
+    ensures only { IfErr result IsOfWords }
 {
-    let Some((job, rest)) = words.split_first() else {
-        return None;
+    let Some((first, rest)) = words.split_first() else {
+        return Err(Refusal::Words);
     };
-    if is_text(job.as_str(), "classify") {
-        return classify_of(rest);
+    match Command::named(first.as_str()) {
+        Some(job) => job_with(alloc, job, rest),
+        None => Err(Refusal::Words),
     }
-    if is_text(job.as_str(), "confirm") {
-        return confirm_of(rest);
-    }
-    None
 }
 
-/// The job `classify` with these options, or `None` where they aren't right.
-fn classify_of(rest: &[String]) -> Option<Job<'_>>
-    ensures found { IfSome result (AreWordsOf (codes "classify" ∷ map string_bytes rest.now)) }
-    ensures in_range { IfSome result IsInRange }
-    ensures none { IfNone result ((names : FileNames) (settings : Settings) → ¬ AreClassifyWords (codes "classify" ∷ map string_bytes rest.now) names settings) }
+/// The job with what stands behind its word.
+fn job_with(alloc: Global, job: Command, rest: &[String]) -> Result<Job<'_>, Refusal>
+    ensures found { IfOk result (AreWordsOf (job_word job ∷ map string_bytes rest.now)) }
+    ensures in_range { IfOk result HasRange }
+    ensures none { IfErr result (λ r. r ≡ Refusal.Words → NameNothing (job_word job ∷ map string_bytes rest.now)) }
+    ensures only { IfErr result IsOfWords }
 {
-    if !are_right(rest, Command::Classify) {
-        return None;
+    let matches = matches_of(alloc, job, rest)?;
+    if !are_right(&matches, job) {
+        return Err(Refusal::Words);
     }
-    match paths_of(rest) {
-        Some(paths) => Some(Job::Classify(paths, options_of(rest))),
+    match job_given(&matches, job) {
+        Some(asked) => Ok(asked),
+        None => Err(Refusal::Words),
+    }
+}
+
+/// The job with the values of its options, or `None` where one that it needs is missing.
+fn job_given<'a>(matches: &ArgMatches<'a>, job: Command) -> Option<Job<'a>>
+    requires right { are_right job (values_of matches.now) ≡ true }
+
+    ensures found { IfSome result (IsJobOf job (values_of matches.now)) }
+    ensures none { IfNone result (HasNoJob job (values_of matches.now)) }
+{
+    match job {
+        Command::Classify => classify_of(matches),
+        Command::Confirm => confirm_of(matches),
+        Command::Table => table_of(matches),
+        Command::Bench => bench_of(matches),
+    }
+}
+
+/// The job `classify` with these values.
+fn classify_of<'a>(matches: &ArgMatches<'a>) -> Option<Job<'a>>
+    requires right { are_right command.Classify (values_of matches.now) ≡ true }
+
+    ensures found { IfSome result (IsJobOf command.Classify (values_of matches.now)) }
+    ensures none { IfNone result (HasNoJob command.Classify (values_of matches.now)) }
+{
+    match paths_of(matches) {
+        Some(paths) => Some(Job::Classify(paths, options_of(matches))),
         None => None,
     }
 }
 
-/// The job `confirm` with these options, or `None` where they aren't right.
-fn confirm_of(rest: &[String]) -> Option<Job<'_>>
-    ensures found { IfSome result (AreWordsOf (codes "confirm" ∷ map string_bytes rest.now)) }
-    ensures in_range { IfSome result IsInRange }
-    ensures none { IfNone result ((names : FileNames) (report : List ℕ) → ¬ AreConfirmWords (codes "confirm" ∷ map string_bytes rest.now) names report) }
+/// The job `confirm` with these values.
+fn confirm_of<'a>(matches: &ArgMatches<'a>) -> Option<Job<'a>>
+    ensures found { IfSome result (IsJobOf command.Confirm (values_of matches.now)) }
+    ensures none { IfNone result (HasNoJob command.Confirm (values_of matches.now)) }
 {
-    if !are_right(rest, Command::Confirm) {
-        return None;
-    }
-    let Some(report) = text_at(rest, CommandOption::Report) else {
+    let Some(report) = text_of(matches, CommandOption::Report) else {
         return None;
     };
-    match paths_of(rest) {
+    match paths_of(matches) {
         Some(paths) => Some(Job::Confirm(paths, report)),
         None => None,
     }
 }
 
-/// The files that the options name, or `None` where one is missing.
-fn paths_of(rest: &[String]) -> Option<Paths<'_>>
-    ensures found { IfSome result (λ paths. AreNamed (text_at (map string_bytes rest.now)) (names_in paths)) }
-    ensures none { IfNone result ((names : FileNames) → ¬ AreNamed (text_at (map string_bytes rest.now)) names) }
+/// The job `table` with these values.
+fn table_of<'a>(matches: &ArgMatches<'a>) -> Option<Job<'a>>
+    ensures found { IfSome result (IsJobOf command.Table (values_of matches.now)) }
+    ensures none { IfNone result (HasNoJob command.Table (values_of matches.now)) }
 {
-    let Some(ontology) = text_at(rest, CommandOption::Ontology) else {
+    match text_of(matches, CommandOption::Report) {
+        Some(report) => Some(Job::Table(report)),
+        None => None,
+    }
+}
+
+/// The job `bench` with these values.
+fn bench_of<'a>(matches: &ArgMatches<'a>) -> Option<Job<'a>>
+    requires right { are_right command.Bench (values_of matches.now) ≡ true }
+
+    ensures found { IfSome result (IsJobOf command.Bench (values_of matches.now)) }
+    ensures none { IfNone result (HasNoJob command.Bench (values_of matches.now)) }
+{
+    match text_of(matches, CommandOption::Size) {
+        Some(size) => Some(Job::Bench(number_in(size.as_bytes()) as u32)),
+        None => None,
+    }
+}
+
+/// The files that the options name, or `None` where one is missing.
+fn paths_of<'a>(matches: &ArgMatches<'a>) -> Option<Paths<'a>>
+    ensures found { IfSome result (λ paths. AreNamed (values_of matches.now) (names_in paths)) }
+    ensures none { IfNone result ((names : FileNames) → ¬ AreNamed (values_of matches.now) names) }
+{
+    let Some(ontology) = text_of(matches, CommandOption::Ontology) else {
         return None;
     };
-    let Some(facts) = text_at(rest, CommandOption::Facts) else {
+    let Some(facts) = text_of(matches, CommandOption::Facts) else {
         return None;
     };
-    let Some(query) = text_at(rest, CommandOption::Query) else {
+    let Some(query) = text_of(matches, CommandOption::Query) else {
         return None;
     };
     Some(Paths {
         ontology,
         facts,
-        priority: text_at(rest, CommandOption::Priority),
+        priority: text_of(matches, CommandOption::Priority),
         query,
     })
 }
 
 /// What the options of `classify` set.
-fn options_of(rest: &[String]) -> Options
-    requires right { are_right command.Classify (map string_bytes rest.now) ≡ true }
+fn options_of(matches: &ArgMatches) -> Options
+    requires right { are_right command.Classify (values_of matches.now) ≡ true }
 
-    ensures exact { settings_in result ≡ settings_by (text_at (map string_bytes rest.now)) }
+    ensures exact { settings_in result ≡ settings_by (values_of matches.now) }
     ensures in_range { AreInRange (settings_in result) }
 {
     Options {
-        repairs: repairs_of(rest),
-        budget: number_of(rest, CommandOption::Budget, 20_000),
-        keep: number_of(rest, CommandOption::Keep, 20_000),
-        most_queries: number_of(rest, CommandOption::MaxCqs, 5_000) as u32,
-        most_supports: number_of(rest, CommandOption::MaxSupports, 100_000),
-        most_conflicts: number_of(rest, CommandOption::MaxConflicts, 200_000),
+        repairs: repairs_of(matches),
+        budget: number_of(matches, CommandOption::Budget, 20_000),
+        keep: number_of(matches, CommandOption::Keep, 20_000),
+        most_queries: number_of(matches, CommandOption::MaxCqs, 5_000) as u32,
+        most_supports: number_of(matches, CommandOption::MaxSupports, 100_000),
+        most_conflicts: number_of(matches, CommandOption::MaxConflicts, 200_000),
     }
 }
 
 /// The repairs that are asked about.
-fn repairs_of(rest: &[String]) -> Repairs
-    ensures exact { result ≡ repairs_in (text_at (map string_bytes rest.now) given.Repairs) }
+fn repairs_of(matches: &ArgMatches) -> Repairs
+    ensures exact { result ≡ repairs_in (values_of matches.now given.Repairs) }
 {
-    match text_at(rest, CommandOption::Repairs) {
+    match text_of(matches, CommandOption::Repairs) {
         Some(value) => repairs_named(value),
         None => Repairs::Pareto,
     }
@@ -164,10 +238,10 @@ fn repairs_named(value: &str) -> Repairs
 }
 
 /// The number that is given to the option, or this one where none is; at most 2^64 - 1.
-fn number_of(rest: &[String], option: CommandOption, default: u64) -> u64
-    ensures exact { result ≡ min (number_or default (text_at (map string_bytes rest.now) option)) (2 ^ 64 - 1) }
+fn number_of(matches: &ArgMatches, option: CommandOption, default: u64) -> u64
+    ensures exact { result ≡ min (number_or default (values_of matches.now option)) (2 ^ 64 - 1) }
 {
-    match text_at(rest, option) {
+    match text_of(matches, option) {
         Some(value) => number_in(value.as_bytes()),
         None => default,
     }

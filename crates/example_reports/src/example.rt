@@ -29,6 +29,14 @@ pub(crate) fn words(
     Ok(words)
 }
 
+/// The words of `table` on the folder's report.
+pub(crate) fn table_words(alloc: Global, folder: &str) -> Result<Vec<String>, AllocError> {
+    let mut words = Vec::new(alloc);
+    words.push(String::from_str(alloc, "table")?)?;
+    put_file(&mut words, "--report", folder, "report.txt")?;
+    Ok(words)
+}
+
 /// Puts an option and the path of a file of the folder behind the words.
 pub(crate) fn put_file(
     words: &mut Vec<String>,

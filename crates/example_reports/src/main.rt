@@ -1,5 +1,5 @@
-//! Runs `cqapri` over stored examples, and says of each whether its report or its message is the stored one, and
-//! whether the report is accepted.
+//! Runs `cqapri` over stored examples, and says of each whether its report and its table, or its message, are the stored ones,
+//! and whether the report is accepted.
 #![tactic(auto)]
 
 mod example;
@@ -61,7 +61,7 @@ fn are_all_refused(rt: &HostRuntime) -> Result<bool, Stopped> {
     Ok(are_refused)
 }
 
-/// Whether the folder's report is the stored one, and accepted. Its line is printed.
+/// Whether the folder's report and its table are the stored ones, and the report is accepted. Its line is printed.
 fn is_answered(rt: &HostRuntime, folder: &str) -> Result<bool, Stopped> {
     let mut files = FileShelf::new(rt);
     let reported = report_of(rt.alloc(), &mut files, folder)?;

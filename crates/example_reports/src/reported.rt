@@ -1,23 +1,25 @@
-//! An example that is answered: its report, beside the stored one.
+//! An example that is answered: its report and its table, beside the stored ones.
 
 ghost use Rattle.std.specs.Prelude.{◌≡◌, ◌↔◌, IsTrue};
 
 use crate::example::{has_priority, put_file, stored, words};
-use crate::running::{Ended, classified, end_of};
+use crate::running::{Ended, classified, end_of, tabulated};
 use crate::stopped::Stopped;
 use cq_io::{Shelf, Sink};
 use cqapri_cli::Status;
 use std::alloc::{AllocError, Global};
 
-/// The end of `classify`, the stored report, and the end of `confirm` of that.
+/// The end of `classify`, the stored report, the ends of `confirm` and `table` of that, and the stored table.
 #[derive(Drop)]
 pub(crate) struct Reported {
     classified: Ended,
     stored: Vec<u8>,
     confirmed: Ended,
+    tabulated: Ended,
+    table: Vec<u8>,
 }
 
-/// Classifies the folder's files, and confirms its stored report.
+/// Classifies the folder's files, and confirms and tabulates its stored report.
 pub(crate) fn report_of<S: Shelf>(
     alloc: Global,
     files: &mut S,
@@ -25,12 +27,16 @@ pub(crate) fn report_of<S: Shelf>(
 ) -> Result<Reported, Stopped> {
     let has_priority = has_priority(alloc, files, folder)?;
     let classified = classified(alloc, files, folder, has_priority)?;
-    let stored = stored(alloc, files, folder, "report.txt")?;
+    let report = stored(alloc, files, folder, "report.txt")?;
     let confirmed = confirmed(alloc, files, folder, has_priority)?;
+    let tabulated = tabulated(alloc, files, folder)?;
+    let table = stored(alloc, files, folder, "table.csv")?;
     Ok(Reported {
         classified,
-        stored,
+        stored: report,
         confirmed,
+        tabulated,
+        table,
     })
 }
 
@@ -48,14 +54,25 @@ fn confirmed<S: Shelf>(
 }
 
 impl Reported {
-    /// Whether `classify` has decided all and written the stored report, which `confirm` accepts.
+    /// Whether `classify` has decided all and written the stored report, which `confirm` accepts and of which `table` prints the
+    /// stored table.
     pub(crate) fn is_as_stored(&self) -> bool
         ensures exact { IsTrue result ↔ ((self.now.classified.status ≡ Status.Done) × (self.now.classified.out.bytes ≡ self.now.stored.items)
-            × (self.now.confirmed.status ≡ Status.Done)) }
+            × (self.now.confirmed.status ≡ Status.Done) × (self.now.tabulated.status ≡ Status.Done)
+            × (self.now.tabulated.out.bytes ≡ self.now.table.items)) }
     {
         self.classified.status == Status::Done
             && self.is_stored()
             && self.confirmed.status == Status::Done
+            && self.tabulated.status == Status::Done
+            && self.is_table_stored()
+    }
+
+    /// Whether `table` has printed the stored table.
+    fn is_table_stored(&self) -> bool
+        ensures exact { IsTrue result ↔ (self.now.tabulated.out.bytes ≡ self.now.table.items) }
+    {
+        self.tabulated.out.written() == self.table.as_slice()
     }
 
     /// Whether `classify` has written the stored report.
@@ -82,9 +99,15 @@ impl Reported {
     /// The line up to what `confirm` says.
     fn first_part(&self, alloc: Global, folder: &str) -> Result<String, AllocError> {
         let code = self.classified.status.code();
-        let is_stored = if self.is_stored() { "as" } else { "not as" };
+        let report = is_or_not(self.is_stored());
+        let table = is_or_not(self.is_table_stored());
         format!(in alloc;
-            "{folder}: classify ended with {code}, report {is_stored} stored; confirm: "
+            "{folder}: classify ended with {code}, report {report} stored, table {table} stored; confirm: "
         )
     }
+}
+
+/// The word for what is, or isn't, as stored.
+fn is_or_not(is_so: bool) -> &'static str {
+    if is_so { "as" } else { "not as" }
 }

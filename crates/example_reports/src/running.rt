@@ -1,6 +1,6 @@
 //! One run of the program over sinks in memory.
 
-use crate::example::words;
+use crate::example::{table_words, words};
 use crate::stopped::Stopped;
 use cq_io::{MemSink, Shelf};
 use cq_terms::NoMemory;
@@ -26,6 +26,17 @@ pub(crate) fn classified<S: Shelf>(
     has_priority: bool,
 ) -> Result<Ended, Stopped> {
     let words = words(alloc, "classify", folder, has_priority)?;
+    let ended = end_of(alloc, &words, files)?;
+    Ok(ended)
+}
+
+/// The end of `table` of the folder's stored report.
+pub(crate) fn tabulated<S: Shelf>(
+    alloc: Global,
+    files: &mut S,
+    folder: &str,
+) -> Result<Ended, Stopped> {
+    let words = table_words(alloc, folder)?;
     let ended = end_of(alloc, &words, files)?;
     Ok(ended)
 }

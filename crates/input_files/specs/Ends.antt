@@ -13,19 +13,20 @@ use Rattle.cqapri_words.specs.declared.refusal.Refusal.TheVariants as refusal
 use Rattle.input_files.specs.Fetching.{Succeed, TellsNext, after_fetches, is_fault}
 use Rattle.input_files.specs.Inputs.{name_of}
 
--- the file that has the fault
-abbrev pub file_of : Fault → File
-file_of (fault.LineNotUtf8 line) = file.Ontology
-file_of (fault.BadLine line) = file.Ontology
-file_of (fault.BadWidth number) = file.Facts
-file_of (fault.RecordNotUtf8 number) = file.Facts
-file_of (fault.EmptyField number) = file.Facts
-file_of (fault.PairWidth number) = file.Priority
-file_of (fault.BadNumber number) = file.Priority
-file_of (fault.NoSuchRecord number) = file.Priority
-file_of (fault.BadToken at) = file.Query
-file_of (fault.RepeatedHead place) = file.Query
-file_of (fault.HeadNotInBody place) = file.Query
+-- the file in which its reader finds the fault, where it is one that is read here: a report isn't
+abbrev pub file_of : Fault → Option File
+file_of (fault.LineNotUtf8 line) = Some file.Ontology
+file_of (fault.BadLine line) = Some file.Ontology
+file_of (fault.BadWidth number) = Some file.Facts
+file_of (fault.RecordNotUtf8 number) = Some file.Facts
+file_of (fault.EmptyField number) = Some file.Facts
+file_of (fault.PairWidth number) = Some file.Priority
+file_of (fault.BadNumber number) = Some file.Priority
+file_of (fault.NoSuchRecord number) = Some file.Priority
+file_of (fault.BadToken at) = Some file.Query
+file_of (fault.RepeatedHead place) = Some file.Query
+file_of (fault.HeadNotInBody place) = Some file.Query
+file_of (fault.ReportLine line) = None
 
 -- the file that has too much of the quantity, where it is one of a file
 abbrev pub file_beyond : Quantity → Option File
@@ -45,7 +46,7 @@ file_beyond quantity.Supports = None
 -- the refusal is one that fetching or reading the file may give
 abbrev pub IsOf : File → Refusal → Type 0
 IsOf f (refusal.NotThere g) = g ≡ f
-IsOf f (refusal.Faulty wrong) = file_of wrong ≡ f
+IsOf f (refusal.Faulty wrong) = file_of wrong ≡ Some f
 IsOf f (refusal.Limit beyond) = file_beyond beyond ≡ Some f
 IsOf f (refusal.ReadFault g) = g ≡ f
 IsOf f refusal.NoMemory = Unit {0}

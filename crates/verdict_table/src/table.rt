@@ -30,6 +30,7 @@ pub fn write_table<O: Sink>(alloc: Global, report: &[u8], out: &mut O) -> Result
     ensures whole { OnOk result (bad_line report.now ≡ None) }
     ensures written { OnOk result (O.written out.new ≡ appended (O.written out.old) (table_text report.now)) }
     ensures refused { (line : ℕ) → IsErrOf result (fault.BadLine line) → bad_line report.now ≡ Some line }
+    ensures failed_behind { IsErrOf result fault.Failed → bad_line report.now ≡ None }
     ensures untouched { (line : ℕ) → bad_line report.now ≡ Some line
         → (O.written out.new ≡ O.written out.old) × (O.faults out.new ≡ O.faults out.old) }
     ensures part { OnErr result (AppendsFirst (O.written out.old) (O.written out.new) (table_text report.now)) }

@@ -103,3 +103,23 @@ pub(crate) fn confirmed(alloc: Global, texts: &Texts<'_>, report: &[u8]) -> Resu
     let ended = end_of(alloc, &words, &mut files, None)?;
     Ok(ended)
 }
+
+/// The end of a run with these words alone, over a shelf with the report `r`.
+pub(crate) fn ended_over(
+    alloc: Global,
+    texts: &[&str],
+    report: &[u8],
+    fail_after: Option<u64>,
+) -> Result<Ended, Fail> {
+    let mut words = Vec::new(alloc);
+    put_all(&mut words, texts)?;
+    let mut files = MemShelf::new(alloc);
+    files.put("r", report)?;
+    let ended = end_of(alloc, &words, &mut files, fail_after)?;
+    Ok(ended)
+}
+
+/// The end of `table` of the report.
+pub(crate) fn tabulated(alloc: Global, report: &[u8]) -> Result<Ended, Fail> {
+    ended_over(alloc, &["table", "--report", "r"], report, None)
+}

@@ -6,6 +6,8 @@ mod confirmations;
 #[cfg(test)]
 mod desk;
 #[cfg(test)]
+mod jobs;
+#[cfg(test)]
 mod lines;
 #[cfg(test)]
 mod marks;

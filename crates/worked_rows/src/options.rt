@@ -78,6 +78,28 @@ fn confirm_takes_no_options_of_classify(rt: HostRuntime) {
     refuses(&rt, alloc, &files);
 }
 
+#[test]
+fn table_takes_a_report_alone(rt: HostRuntime) {
+    let alloc = rt.alloc();
+    refuses(&rt, alloc, &["table"]);
+    refuses(&rt, alloc, &["table", "--report"]);
+    refuses(&rt, alloc, &["table", "--report", "r", "--report", "r"]);
+    refuses(&rt, alloc, &["table", "--report", "r", "--query", "q"]);
+    refuses(&rt, alloc, &["table", "--report", "-r"]);
+    refuses(&rt, alloc, &["table", "--rep", "r"]);
+}
+
+#[test]
+fn bench_takes_a_size_alone(rt: HostRuntime) {
+    let alloc = rt.alloc();
+    refuses(&rt, alloc, &["bench"]);
+    refuses(&rt, alloc, &["bench", "--size", "0"]);
+    refuses(&rt, alloc, &["bench", "--size", "20001"]);
+    refuses(&rt, alloc, &["bench", "--size", "5", "--size", "5"]);
+    refuses(&rt, alloc, &["bench", "--size", "5", "--budget", "5"]);
+    refuses(&rt, alloc, &["bench", "5"]);
+}
+
 /// The status of a run with the words.
 fn status_after(alloc: Global, texts: &[&str]) -> Result<Status, Fail> {
     let mut words = Vec::new(alloc);

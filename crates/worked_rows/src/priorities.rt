@@ -87,7 +87,7 @@ pub(crate) const QUOTED: Texts<'static> = Texts {
 
 #[test]
 fn records_of_one_fact_are_one_in_the_priority(rt: HostRuntime) {
-    decides(&rt, rt.alloc(), &QUOTED, &[], "Lee, Ann,yes,yes,yes\n");
+    decides(&rt, rt.alloc(), &QUOTED, &[], "\"Lee, Ann\",yes,yes,yes\n");
 }
 
 #[test]

@@ -1,71 +1,13 @@
-//! The verdicts of a report as a table: for each answer its names and its verdicts.
+//! The verdicts of a report as the table that `table` prints, and `confirm` of the report.
 
-use crate::desk::{Texts, classified, confirmed};
+use crate::desk::{Texts, classified, confirmed, tabulated};
 use cqapri_cli::Status;
-use report_text::{Line, ReadRefusal, Verdict, read};
-use std::alloc::{AllocError, Global};
+use std::alloc::Global;
 use std::process::Abort;
 use std::test::Fail;
 
-/// The word for a verdict.
-fn word(verdict: Verdict) -> &'static str {
-    match verdict {
-        Verdict::Yes => "yes",
-        Verdict::No => "no",
-        Verdict::Undecided => "undecided",
-    }
-}
-
-/// Puts a record behind the table: the names, then brave, AR and IAR.
-fn put_record(
-    table: &mut String,
-    names: &[String],
-    verdicts: [Verdict; 3],
-) -> Result<(), AllocError> {
-    for name in names {
-        table.push_str(name)?;
-        table.push_str(",")?;
-    }
-    let [brave, ar, iar] = verdicts;
-    table.push_str(word(brave))?;
-    table.push_str(",")?;
-    table.push_str(word(ar))?;
-    table.push_str(",")?;
-    table.push_str(word(iar))?;
-    table.push_str("\n")
-}
-
-/// Puts the record of the line behind the table, where it is an answer.
-fn put_line(table: &mut String, line: &Line) -> Result<(), AllocError> {
-    match line {
-        Line::Answer {
-            brave,
-            ar,
-            iar,
-            names,
-            ..
-        } => put_record(table, names.as_slice(), [*brave, *ar, *iar]),
-        _ => Ok(()),
-    }
-}
-
-/// The line whose text the bytes are.
-fn line_of(alloc: Global, bytes: &[u8]) -> Result<Line, ReadRefusal> {
-    read(alloc, bytes)
-}
-
-/// The table of a report.
-fn table_of(alloc: Global, report: &[u8]) -> Result<String, Fail> {
-    let mut table = String::new(alloc);
-    for bytes in report.split(|byte| *byte == b'\n') {
-        if !bytes.is_empty() {
-            put_line(&mut table, &line_of(alloc, bytes)?)?;
-        }
-    }
-    Ok(table)
-}
-
-/// Whether `classify` with more words ends with the status and this table, and nothing on `err`, and `confirm` accepts its report.
+/// Whether `classify` with more words ends with the status and nothing on `err`, `table` prints this of its report, and
+/// `confirm` accepts it.
 fn is_so(
     alloc: Global,
     texts: &Texts<'_>,
@@ -74,11 +16,10 @@ fn is_so(
     table: &str,
 ) -> Result<bool, Fail> {
     let ended = classified(alloc, texts, more)?;
-    let told = table_of(alloc, ended.out.written())?;
-    let is_right = ended.status == status
-        && ended.err.written().is_empty()
-        && told.as_str() == table;
-    Ok(is_right && is_accepted(alloc, texts, ended.out.written(), table)?)
+    let report = ended.out.written();
+    let is_right = ended.status == status && ended.err.written().is_empty();
+    let is_table = tabulated(alloc, report)?.is(Status::Done, table, "");
+    Ok(is_right && is_table && is_accepted(alloc, texts, report, table)?)
 }
 
 /// Whether `confirm` accepts the report, with as many answers as the table has records.

@@ -1,4 +1,4 @@
-use Rattle.std.proofs.Common.{refl, sym, ◌∙◌, subst}
+use Rattle.std.proofs.Common.{refl, sym, subst}
 use Rattle.cq_io.specs.Faults.{TellsFault}
 use Rattle.preparation.specs.Prepared.{IsPrepared}
 use Rattle.input_files.specs.Bounds.{IsBounded}

@@ -1,7 +1,6 @@
 use Rattle.std.proofs.Common.{ℕ, List, refl, sym, ◌∙◌, subst}
 use Rattle.cqapri_words.specs.Jobs.{names_in}
 use Rattle.cqapri_words.specs.declared.files.File.TheVariants as file
-use Rattle.cqapri_words.specs.declared.refusal.Refusal.TheVariants as refusal
 use Rattle.refutation_confirmer.specs.Saying.{Says}
 use Rattle.cqapri_cli.specs.Ends.{StopsConfirm}
 use Rattle.cqapri_cli.specs.Leaving.{LeavesConfirm}

@@ -1,5 +1,3 @@
-use Rattle.cqapri_words.specs.Jobs.{settings_in}
-use Rattle.cqapri_cli.specs.Limits.{limits_of}
 use Rattle.cqapri_cli.proofs.PreparingLemmas.{refused_names_facts}
 use Rattle.cqapri_cli.proofs.preparing.prepare_input.Goals as goal
 
