@@ -1,142 +1,36 @@
 -- `clap` takes options with their values, and finds these.
 use Rattle.std.specs.Prelude.{⊤}
-use Rattle.std.proofs.Common.{◌≡◌, ℕ, ◌==◌, Bool, true, false, not, ◌&&◌, ◌||◌, List, [], ◌∷◌, ◌++◌, Option, Some, None, is_some, refl, sym, ap, ap₂, ◌∙◌, codes, cond, fold, find, map, slice_get, option_and_then, if◌then◌else◌}
-use Rattle.std.specs.Option.{option_map_or}
-use Rattle.clap.specs.Facts.{explicit_source}
+use Rattle.std.proofs.Common.{◌≡◌, ℕ, ◌==◌, Bool, true, false, not, ◌&&◌, ◌||◌, List, [], ◌∷◌, ◌++◌, Option, Some, None, is_some, refl, sym, ap, ap₂, ◌∙◌}
+use Rattle.std.proofs.Common.{codes, fold, find, map, slice_get, option_and_then, if◌then◌else◌}
 use Rattle.std.specs.List.{list_any}
+use Rattle.std.specs.Option.{option_map_or}
 use Rattle.std.specs.Str.{bytes_eq}
 use Rattle.std.proofs.lemmas.List.{append_assoc, append-nil}
 use Rattle.std.proofs.lemmas.List.Folds.{list_any-append}
 use Rattle.std.proofs.lemmas.Slice.Eq.{bytes_eq-Decides}
+use Rattle.clap.specs.Facts.{explicit_source}
 use Rattle.clap.specs.Lexer.{long_of, short_of}
-use Rattle.clap.specs.Walk.{Held, Row, Rule, Text, Waiting, Walk, action_of, arg_by_id, arg_by_long, at_row, first_of, finished, has_row, idle, more_values, nothing_held, option, settled_rows, used, walk, walked, with_default, without}
-use Rattle.clap.specs.Simple.{Shape, built, filled}
-use Rattle.clap.specs.Faults.{check_fault, default_fault, defaults_fault, level_fault, settle_fault, turn_fault, use_fault, walk_fault}
-use Rattle.clap.specs.Kinds.{or_else, request_kinds}
+use Rattle.clap.specs.Walk.{Row, Rule, Text, Waiting, Walk, at_row, finished, first_of, has_row, idle, more_values, nothing_held, option, settled_rows, used}
+use Rattle.clap.specs.Walk.{walk, walked, without}
+use Rattle.clap.specs.Simple.{built}
+use Rattle.clap.specs.Faults.{check_fault, level_fault, settle_fault, turn_fault, use_fault, walk_fault}
 use Rattle.clap.specs.Takes.{is_given}
 use Rattle.clap.proofs.FaultLemmas.{leaf_fault}
 use Rattle.clap.specs.declared.parser.matches.ValueSource.TheVariants.{CommandLine}
 use Rattle.clap.specs.declared.builder.value_parser.Reading.TheVariants.{AsWritten}
-use Rattle.cqapri_words.specs.CommandLine.{app_of_job, faults_in, option_rule, rows_in, value_in}
+use Rattle.cqapri_words.specs.CommandLine.{app_of_job, faults_in, rows_in, value_in}
 use Rattle.cqapri_words.specs.GivenWords.{ArePlain, Given, all_words, apart, given_to, has_needed, is_among, joined, option_in, value_given}
 use Rattle.cqapri_words.specs.Options.{is_required, option_name, options_of}
 use Rattle.cqapri_words.specs.declared.options.Command.{Command}
 use Rattle.cqapri_words.specs.declared.options.Command.TheVariants as command
 use Rattle.cqapri_words.specs.declared.options.CommandOption.{CommandOption}
-use Rattle.cqapri_words.specs.declared.options.CommandOption.TheVariants as given
-
--- ---- names
-
--- the option of a name
-option_named : Text → Option CommandOption
-option_named name = find (λ o. bytes_eq (option_name o) name)
-    (given.Ontology ∷ given.Facts ∷ given.Priority ∷ given.Query ∷ given.Report ∷ given.Repairs ∷ given.Budget ∷ given.Keep ∷ given.MaxCqs
-    ∷ given.MaxSupports ∷ given.MaxConflicts ∷ given.Size ∷ [])
-
-named_name : (o : CommandOption) → option_named (option_name o) ≡ Some o
-unfolding option_named
-named_name given.Ontology = refl
-named_name given.Facts = refl
-named_name given.Priority = refl
-named_name given.Query = refl
-named_name given.Report = refl
-named_name given.Repairs = refl
-named_name given.Budget = refl
-named_name given.Keep = refl
-named_name given.MaxCqs = refl
-named_name given.MaxSupports = refl
-named_name given.MaxConflicts = refl
-named_name given.Size = refl
-
-same_option : (one other : CommandOption) → bytes_eq (option_name one) (option_name other) ≡ true → one ≡ other
-same_option one other e =
-    let names : option_name one ≡ option_name other = (bytes_eq-Decides (option_name one) (option_name other)).0 e in
-    let both : Some one ≡ Some other = sym (named_name one) ∙ ap option_named names ∙ named_name other in cc
-
--- what `clap` sees in `--name` and `--name=v`
-name_alone : (o : CommandOption) → long_of (codes "--" ++ option_name o) ≡ Some (option_name o, None)
-name_alone given.Ontology = refl
-name_alone given.Facts = refl
-name_alone given.Priority = refl
-name_alone given.Query = refl
-name_alone given.Report = refl
-name_alone given.Repairs = refl
-name_alone given.Budget = refl
-name_alone given.Keep = refl
-name_alone given.MaxCqs = refl
-name_alone given.MaxSupports = refl
-name_alone given.MaxConflicts = refl
-name_alone given.Size = refl
-
-name_joined : (o : CommandOption) (v : Text) → long_of (codes "--" ++ (option_name o ++ 61 ∷ v)) ≡ Some (option_name o, Some v)
-name_joined given.Ontology v = refl
-name_joined given.Facts v = refl
-name_joined given.Priority v = refl
-name_joined given.Query v = refl
-name_joined given.Report v = refl
-name_joined given.Repairs v = refl
-name_joined given.Budget v = refl
-name_joined given.Keep v = refl
-name_joined given.MaxCqs v = refl
-name_joined given.MaxSupports v = refl
-name_joined given.MaxConflicts v = refl
-name_joined given.Size v = refl
-
--- neither is `--`
-not_closing : (o : CommandOption) (rest : Text) → bytes_eq (codes "--" ++ (option_name o ++ rest)) (45 ∷ 45 ∷ []) ≡ false
-not_closing given.Ontology rest = refl
-not_closing given.Facts rest = refl
-not_closing given.Priority rest = refl
-not_closing given.Query rest = refl
-not_closing given.Report rest = refl
-not_closing given.Repairs rest = refl
-not_closing given.Budget rest = refl
-not_closing given.Keep rest = refl
-not_closing given.MaxCqs rest = refl
-not_closing given.MaxSupports rest = refl
-not_closing given.MaxConflicts rest = refl
-not_closing given.Size rest = refl
-
--- ---- rules
-
--- the option as `clap` builds it
-abbrev rule : CommandOption → Rule
-rule o = filled (option_rule o)
-
-abbrev rules : List CommandOption → List Rule
-rules options = map rule options
-
--- the rule of an option is found by its name
-by_id : (options : List CommandOption) (o : CommandOption) → is_among options o ≡ true → arg_by_id (rules options) (option_name o) ≡ Some (rule o)
-by_id [] o e = cc
-by_id (p ∷ options) o e = go (bytes_eq (option_name p) (option_name o)) refl e (by_id options o)
-  where
-    go : (b : Bool) → bytes_eq (option_name p) (option_name o) ≡ b → (b || is_among options o) ≡ true
-        → (is_among options o ≡ true → arg_by_id (rules options) (option_name o) ≡ Some (rule o))
-        → (if b then Some (rule p) else arg_by_id (rules options) (option_name o)) ≡ Some (rule o)
-    go true test h later = ap (λ x. Some (rule x)) (same_option p o test)
-    go false test h later = later h
-
-by_long : (options : List CommandOption) (o : CommandOption) → is_among options o ≡ true → arg_by_long (rules options) (option_name o) ≡ Some (rule o)
-by_long [] o e = cc
-by_long (p ∷ options) o e = go (bytes_eq (option_name p) (option_name o)) refl e (by_long options o)
-  where
-    go : (b : Bool) → bytes_eq (option_name p) (option_name o) ≡ b → (b || is_among options o) ≡ true
-        → (is_among options o ≡ true → arg_by_long (rules options) (option_name o) ≡ Some (rule o))
-        → (if b || false then Some (rule p) else arg_by_long (rules options) (option_name o)) ≡ Some (rule o)
-    go true test h later = ap (λ x. Some (rule x)) (same_option p o test)
-    go false test h later = later h
+use Rattle.cqapri_words.proofs.RuleLemmas.{both, by_id, by_long, defaults, held, name_alone, name_joined, neither, not_closing, rule, rules, shape}
 
 -- ---- rows
 
 -- the row of an option with its value
 abbrev row : CommandOption → Text → Row
 row o v = record { id = option_name o; values = v ∷ []; count = None; source = Some CommandLine; reading = AsWritten }
-
--- either test fails
-neither : (a b : Bool) → (a || b) ≡ false → (a ≡ false) × (b ≡ false)
-neither true b e = cc
-neither false b e = (refl, e)
 
 -- where no row has the id, the new one comes last
 last_row : (id : Text) (change : Row → List Row) (new rows : List Row) → has_row id rows ≡ false → at_row id change new rows ≡ rows ++ new
@@ -170,36 +64,11 @@ IsFree options rows None = ⊤
 IsFree options rows (Some i) = (has_row (option_name i.0) rows ≡ false) × (is_among options i.0 ≡ true)
 
 -- the walk between two words
-abbrev held : List Row → Option (Text × List Text) → Held
-held rows pending = record { rows = rows; pending = pending; skip = 0 }
-
 abbrev at : List Row → Option (Text × List Text) → Waiting → Walk
 at rows pending waiting = record { held = held rows pending; waiting = waiting; position = 1; is_trailing = false; stopped = None }
 
 abbrev between : List Row → Option (CommandOption × Text) → Walk
 between rows p = at rows (pend p) idle
-
--- the command as `clap` builds it
-abbrev shape : Text → List Rule → Shape
-shape name rs = record {
-  name = name;
-  aliases = [];
-  rules = rs;
-  is_plain = true;
-  is_leaf = true;
-  no_binary_name = true;
-  disable_help_flag = true;
-  disable_help_subcommand = true;
-  disable_version_flag = true;
-  propagate_version = false;
-  has_version = false;
-  has_long_version = false;
-  args_override_self = false;
-  arg_required_else_help = false;
-  subcommand_required = false;
-  subcommand_negates_reqs = false;
-  is_built = true;
-}
 
 same_bytes : (text : Text) → bytes_eq text text ≡ true
 same_bytes text = (bytes_eq-Decides text text).1 refl
@@ -356,7 +225,8 @@ found_value (g ∷ gs) o =
     rw (same_test (option_name (option_in g)) (option_name o)) (go (bytes_eq (option_name o) (option_name (option_in g))) (found_value gs o))
   where
     go : (b : Bool) → first_of (option_name o) (rows_of gs) ≡ given_to gs o
-        → option_and_then (λ r. slice_get r.values 0) (if b then Some (row (option_in g) (value_given g)) else find (λ r. bytes_eq r.id (option_name o)) (rows_of gs))
+        → option_and_then (λ r. slice_get r.values 0)
+        (if b then Some (row (option_in g) (value_given g)) else find (λ r. bytes_eq r.id (option_name o)) (rows_of gs))
         ≡ (if b then Some (value_given g) else given_to gs o)
     go true e = refl
     go false e = e
@@ -367,16 +237,13 @@ row_is_given (g ∷ gs) o =
     rw (same_test (option_name (option_in g)) (option_name o)) (go (bytes_eq (option_name o) (option_name (option_in g))) (row_is_given gs o))
   where
     go : (b : Bool) → is_given (option_name o) (rows_of gs) ≡ is_some (given_to gs o)
-        → option_map_or (λ r. explicit_source r.source) (if b then Some (row (option_in g) (value_given g)) else find (λ r. bytes_eq r.id (option_name o)) (rows_of gs)) false
+        → option_map_or (λ r. explicit_source r.source)
+        (if b then Some (row (option_in g) (value_given g)) else find (λ r. bytes_eq r.id (option_name o)) (rows_of gs)) false
         ≡ is_some (if b then Some (value_given g) else given_to gs o)
     go true e = refl
     go false e = e
 
 -- nothing that is needed is missing
-both : (a b : Bool) → (a && b) ≡ true → (a ≡ true) × (b ≡ true)
-both true b e = (refl, e)
-both false b e = cc
-
 none_missing : (options : List CommandOption) (gs : List Given) → has_needed options gs ≡ true
     → list_any (λ (a : Rule). a.required && not (is_given a.id (rows_of gs))) (rules options) ≡ false
 none_missing [] gs e = refl
@@ -392,20 +259,6 @@ none_missing (o ∷ options) gs e =
 checked : (name : Text) (options : List CommandOption) (gs : List Given) → has_needed options gs ≡ true
     → check_fault (shape name (rules options)) (rows_of gs) false ≡ []
 checked name options gs e = rw (none_missing options gs e) refl
-
--- no option has a default
-by_default : (o : CommandOption) (rows : List Row) → (default_fault rows (rule o) ≡ []) × (with_default rows (rule o) ≡ rows)
-by_default o rows =
-    elim (has_row (option_name o) rows) as (λ b. (cond (b || true) [] (or_else (request_kinds (action_of (rule o))) []) ≡ []) × (cond b rows rows ≡ rows))
-    [ true ↦ (refl, refl) | false ↦ (refl, refl) ]
-
-defaults : (options : List CommandOption) (rows : List Row) → (defaults_fault rows (rules options) ≡ []) × (fold with_default rows (rules options) ≡ rows)
-unfolding defaults_fault
-defaults [] rows = (refl, refl)
-defaults (o ∷ options) rows =
-    let first = by_default o rows in
-    let later = defaults options rows in
-    (rw (first.0, first.1) later.0, ap (λ rs. fold with_default rs (rules options)) first.1 ∙ later.1)
 
 -- ---- all together
 

@@ -1,5 +1,6 @@
 -- The jobs that words ask for.
-use Rattle.std.proofs.Common.{◌≡◌, ◌≢◌, ℕ, Bool, true, false, List, [], ◌∷◌, Option, Some, None, refl, sym, ap, ap₂, ◌∙◌, subst, true≢false, find, map, if◌then◌else◌}
+use Rattle.std.proofs.Common.{◌≡◌, ◌≢◌, ℕ, Bool, true, false, List, [], ◌∷◌, Option, Some, None, refl, sym, ap}
+use Rattle.std.proofs.Common.{ap₂, ◌∙◌, subst, true≢false, find, map, if◌then◌else◌}
 use Rattle.std.specs.Str.{bytes_eq}
 use Rattle.std.proofs.lemmas.Slice.Eq.{bytes_eq-Decides}
 use Rattle.clap.specs.Words.{Row, first_of}
@@ -51,12 +52,12 @@ later_words : {X : Type 0} (a b : X) (later others : List X) → a ∷ later ≡
 later_words a b later others e = cc
 
 -- what words that ask for a job are, whichever it is
-record Asked (words : List (List ℕ)) (request : Request) : Type 0 where
+pub record Asked (words : List (List ℕ)) (request : Request) : Type 0 where
   pub rest : List (List ℕ)
   pub taken : AreTaken (command_of request) words rest
   pub values : AreValuesOf (value_in (command_of request) rest) request
 
-asked : (words : List (List ℕ)) (request : Request) → AskFor words request → Asked words request
+pub asked : (words : List (List ℕ)) (request : Request) → AskFor words request → Asked words request
 asked words (classify names settings) w = record { rest = w.rest; taken = w.are_taken; values = (w.are_named, w.are_set) }
 asked words (confirm names report) w = record { rest = w.rest; taken = w.are_taken; values = (w.are_named, w.is_report) }
 asked words (table report) w = record { rest = w.rest; taken = w.are_taken; values = w.is_report }

@@ -1,7 +1,10 @@
 mod CommandLemmas
 mod CycleLemmas
+mod ExactLemmas
 mod GivenLemmas
 mod JobLemmas
+mod NeededLemmas
 mod PieceLemmas
 mod PlainLemmas
+mod RuleLemmas
 mod ValueLemmas

@@ -1,6 +1,8 @@
 -- The jobs that words ask for.
-use Rattle.std.specs.Prelude.{◌≡◌, ℕ, ◌≤◌, List, Option, Some, option_map}
+use Rattle.std.specs.Prelude.{◌≡◌, ◌↔◌, ℕ, ◌≤◌, false, List, [], ◌∷◌, Option, Some, option_map}
+use Rattle.cqapri_words.specs.CommandLine.{faults_in, value_in}
 use Rattle.cqapri_words.specs.Numbers.{number_in}
+use Rattle.cqapri_words.specs.Options.{are_right, job_word}
 use Rattle.cqapri_words.specs.Words.{AreBenchWords, AreClassifyWords, AreConfirmWords, AreInRange, AreNamed, AreTableWords, FileNames, Settings}
 use Rattle.cqapri_words.specs.Words.{settings_by}
 use Rattle.cqapri_words.specs.declared.options.Command.{Command}
@@ -51,3 +53,11 @@ IsInRange (bench size) = (1 ≤ size) × (size ≤ 20000)
 -- words have one meaning: they ask for one job at most
 abbrev pub HaveOneMeaning : Type 0
 HaveOneMeaning = (words : List (List ℕ)) (request other : Request) → AskFor words request → AskFor words other → request ≡ other
+
+-- the first word is no job's, `clap` refuses those behind it, or a value isn't right
+abbrev pub AreRefused : List (List ℕ) → Type 0
+AreRefused words = (job : Command) (rest : List (List ℕ)) → words ≡ job_word job ∷ rest → faults_in job rest ≡ [] → are_right job (value_in job rest) ≡ false
+
+-- words ask for nothing exactly where they are refused: what `clap` takes names each file and size that the job needs
+abbrev pub AskNothingWhereRefused : Type 0
+AskNothingWhereRefused = (words : List (List ℕ)) → NameNothing words ↔ AreRefused words

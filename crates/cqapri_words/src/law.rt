@@ -1,7 +1,7 @@
 //! What holds of the words.
 
 ghost use Rattle.cqapri_words.specs.GivenWords.{TakesPlainWords};
-ghost use Rattle.cqapri_words.specs.Requests.{HaveOneMeaning};
+ghost use Rattle.cqapri_words.specs.Requests.{HaveOneMeaning, AskNothingWhereRefused};
 
 /// The words have one meaning: they ask for one job at most, over the same files and under the same settings.
 pub fn one_meaning()
@@ -12,4 +12,10 @@ pub fn one_meaning()
 /// where `V` isn't empty and doesn't begin with `-`.
 pub fn takes_plain_words()
     ensures law { TakesPlainWords }
+{}
+
+/// Words ask for nothing exactly where the first is no job's, `clap` refuses those behind it, or a value isn't right: so each file and size
+/// that a job needs is named where `clap` takes its words.
+pub fn words_ask_nothing_where_refused()
+    ensures law { AskNothingWhereRefused }
 {}

@@ -17,7 +17,7 @@ mod words;
 pub use cycle::Cycle;
 pub use fault::Fault;
 pub use files::{File, Quantity};
-pub use law::{one_meaning, takes_plain_words};
+pub use law::{one_meaning, takes_plain_words, words_ask_nothing_where_refused};
 pub use options::{Command, CommandOption};
 pub use pieces::write_pieces;
 pub use refusal::Refusal;

@@ -78,7 +78,8 @@ pub enum Job<'a> {
     Bench(u32),
 }
 
-/// The job that the words ask for. The error is `Words` or `NoMemory`. Where there is no word, or the first is no job's, no memory is taken.
+/// The job that the words ask for: the first word names it, and `clap` reads its options behind it, each as `--x V` or `--x=V`. The error
+/// is `Words` where they ask for none, or else `NoMemory`. Where there is no word, or the first is no job's, no memory is taken.
 pub fn job_of(alloc: Global, words: &[String]) -> Result<Job<'_>, Refusal>
     ensures found { IfOk result (AreWordsOf (map string_bytes words.now)) }
     ensures in_range { IfOk result HasRange }
