@@ -37,7 +37,7 @@ fn report_with(alloc: Global, number: usize, other: &str) -> Result<String, Allo
             report.push_str(line)?;
             report.push_str("\n")?;
         }
-        at += 1;
+        at = at.saturating_add(1);
     }
     Ok(report)
 }

@@ -6,6 +6,8 @@ mod confirmations;
 #[cfg(test)]
 mod desk;
 #[cfg(test)]
+mod flushes;
+#[cfg(test)]
 mod jobs;
 #[cfg(test)]
 mod lines;

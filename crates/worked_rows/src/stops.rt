@@ -1,9 +1,8 @@
-//! Files that are missing, and shelves and sinks that fail.
+//! Files that are missing, and shelves and writes that fail.
 
-use crate::desk::{Ended, Texts, end_of, shelf, sink, words};
+use crate::desk::{Ended, Texts, end_of, shelf, words};
 use crate::rows::STAFF;
-use cq_io::{Failed, MemSink, Sink};
-use cqapri_cli::{Status, run};
+use cqapri_cli::Status;
 use std::alloc::Global;
 use std::process::Abort;
 use std::test::Fail;
@@ -240,111 +239,4 @@ fn a_verdict_that_is_not_written_whole_is_a_write_fault(rt: HostRuntime) -> Resu
         )
     );
     Ok(())
-}
-
-/// A sink that counts how often it is flushed and what is written after that, and may fail at a flush.
-#[derive(Drop)]
-struct Watched {
-    bytes: MemSink,
-    flushes: u64,
-    late_writes: u64,
-    fails: bool,
-    faults: u64,
-}
-
-impl Watched {
-    fn new(bytes: MemSink, fails: bool) -> Watched {
-        Watched {
-            bytes,
-            flushes: 0,
-            late_writes: 0,
-            fails,
-            faults: 0,
-        }
-    }
-}
-
-impl Sink for Watched {
-    ghost use Rattle.cq_io.specs.MemSink.{SinkState};
-
-    ghost written = { λ sink. ⟦<MemSink as Sink>⟧.written sink.bytes };
-
-    ghost faults = { λ sink. sink.faults };
-
-    fn write_all(&mut self, bytes: &[u8]) -> Result<(), Failed> {
-        if self.flushes > 0 {
-            self.late_writes = self.late_writes.saturating_add(1);
-        }
-        let written = self.bytes.write_all(bytes);
-        if written.is_err() {
-            self.faults = self.faults.saturating_add(1);
-        }
-        written
-    }
-
-    fn flush(&mut self) -> Result<(), Failed> {
-        self.flushes = self.flushes.saturating_add(1);
-        if self.fails {
-            self.faults = self.faults.saturating_add(1);
-            return Err(Failed);
-        }
-        Ok(())
-    }
-}
-
-/// The end of the job on the files of a row, over a sink that is watched.
-fn run_watched(
-    alloc: Global,
-    job: &str,
-    more: &[&str],
-    fails: bool,
-) -> Result<(Status, Watched), Fail> {
-    let words = words(alloc, job, &STAFF, more)?;
-    let mut files = shelf(alloc, &STAFF)?;
-    files.put("r", b"x")?;
-    let mut out = Watched::new(sink(alloc, None)?, fails);
-    let mut err = sink(alloc, None)?;
-    let status = run(alloc, &words, &mut files, &mut out, &mut err);
-    Ok((status, out))
-}
-
-/// The job ends with the status, and has flushed once, after its last write.
-fn flushes_once(
-    rt: &impl Abort,
-    alloc: Global,
-    job: &str,
-    more: &[&str],
-    fails: bool,
-    status: Status,
-) {
-    match run_watched(alloc, job, more, fails) {
-        Ok((ended, out)) => {
-            assert_eq!(rt; ended, status);
-            assert_eq!(rt; out.flushes, 1);
-            assert_eq!(rt; out.late_writes, 0);
-        }
-        Err(_) => panic!(rt; "no run"),
-    }
-}
-
-#[test]
-fn the_output_is_flushed_once_at_the_end(rt: HostRuntime) {
-    let alloc = rt.alloc();
-    flushes_once(&rt, alloc, "classify", &[], false, Status::Done);
-    flushes_once(
-        &rt,
-        alloc,
-        "confirm",
-        &["--report", "r"],
-        false,
-        Status::Open,
-    );
-}
-
-#[test]
-fn a_flush_that_fails_is_a_write_fault(rt: HostRuntime) {
-    let alloc = rt.alloc();
-    flushes_once(&rt, alloc, "classify", &[], true, Status::WriteFault);
-    let more = ["--report", "r"];
-    flushes_once(&rt, alloc, "confirm", &more, true, Status::WriteFault);
 }
