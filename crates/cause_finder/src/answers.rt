@@ -21,6 +21,17 @@ use std::alloc::Global;
 /// are more pairs of a tuple and a support of it than `limit`, unless memory runs out before. At most `limit` + 1 supports are
 /// kept at a time, besides the hits of one member. A support takes 72 bytes, and an allocation of 4 bytes a number for its tuple
 /// or its image where that has more than four numbers.
+///
+/// ```
+/// let x = Term::Var(0);
+/// let head = Vec::from_slice(alloc, &[x])?;
+/// let body = Vec::from_slice(alloc, &[QAtom::Concept { pred: 0, at: x }])?;
+/// let closure = close(alloc, &Cq::new(head, body), &axioms, 1_000)?;
+/// let candidates = causes(alloc, &axioms, &closure, index, &found.conflicts, 1_000)?;
+/// ```
+///
+/// Where `found` are the conflicts of a table whose fact 0 says that individual 7 is in concept 0, and no other fact leads there,
+/// the one candidate has the tuple `[7]` and the cause `[0]`.
 pub fn causes(
     alloc: Global,
     axioms: &[Axiom],

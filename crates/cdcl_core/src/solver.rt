@@ -21,6 +21,16 @@ use std::marker::Model;
 /// solver (Marques-Silva and Sakallah 1999).
 ///
 /// After a search that found a model its values are there. Each other call that changes the solver takes them away.
+///
+/// ```
+/// // Variable 0 or variable 1 is present: their literals are 0 and 2. Where 0 is absent, which is literal 1, variable 1 is.
+/// let mut solver = Solver::new(alloc, 2)?;
+/// solver.add_clause(&[0, 2])?;
+/// let mut log = MemLog::new(alloc, None);
+/// let mut budget = Budget { limit: 5, used: 0 };
+/// let outcome = solver.solve(&[0, 1], &[1], &mut budget, &mut log)?;
+/// Ok(outcome == Outcome::Model && solver.value(1))
+/// ```
 #[derive(Drop)]
 pub struct Solver {
     store: Store,

@@ -32,6 +32,29 @@ use std::alloc::Global;
 const VERSION: u32 = 1;
 
 /// Writes the whole report on a query, and counts its verdicts.
+///
+/// ```
+/// let plan = Plan {
+///     budget: 10_000,
+///     keep: 20_000,
+///     repairs: Repairs::Pareto,
+/// };
+/// let mut report = LineSink::new(alloc, sink);
+/// let summary = classify(
+///     alloc,
+///     kb,
+///     vocab,
+///     &prepared.closure,
+///     &prepared.found,
+///     &prepared.better,
+///     prepared.candidates.as_slice(),
+///     &plan,
+///     &mut report,
+/// )?;
+/// ```
+///
+/// Where `prepared` is of the query for the Pareto-optimal repairs and `sink` has nothing yet, the sink then has the report, a
+/// line of JSON each, and `summary.answers` is the number of candidates.
 pub fn classify<L: Report>(
     alloc: Global,
     kb: &Kb,

@@ -31,6 +31,18 @@ pub struct FoundConflicts {
 /// The self-inconsistent facts of a table under axioms and the pairs of facts in conflict. `Closure` comes exactly where the
 /// closure of a disjointness has more than `max_cqs` members, with the first such axiom; `Conflicts` exactly where none does
 /// and there are more than `max_conflicts` facts and pairs.
+///
+/// ```
+/// // No vessel is a harbour.
+/// let (vessel, harbour) = (Basic::Concept(0), Basic::Concept(1));
+/// let axioms = [Axiom::Disjoint {
+///     left: vessel,
+///     right: harbour,
+/// }];
+/// let found = find(alloc, &axioms, index, 1_000, 1_000)?;
+/// ```
+///
+/// Where the facts 0 and 1 say that individual 7 is a vessel and that it is a harbour, the one clash is of both.
 pub fn find(
     alloc: Global,
     axioms: &[Axiom],

@@ -1,8 +1,9 @@
 //! The job that the words ask for.
 
-ghost use Rattle.std.specs.Prelude.{◌≡◌, map, string_bytes, IfOk, IfErr};
+ghost use Rattle.std.specs.Prelude.{◌≡◌, Err, map, string_bytes, IfOk, IfErr};
 ghost use Rattle.cq_io.specs.Faults.{TellsFault};
 ghost use Rattle.cqapri_words.specs.Jobs.{HasRange, request_of};
+ghost use Rattle.cqapri_words.specs.Requests.{NameNoJob};
 ghost use Rattle.input_files.specs.Fetching.{is_read_fault};
 ghost use Rattle.cqapri_cli.specs.Ends.{IsEnd, is_write_fault};
 ghost use Rattle.cqapri_cli.specs.Jobs.{Achieves, IsAchieved, IsRefused, Leaves, Stops};
@@ -27,6 +28,7 @@ pub(crate) fn run_words<S: Shelf, O: Sink>(
         (O.written out.old) (O.written out.new)) }
     ensures refused { IfErr result (IsRefused (S.holds files.old) (S.failing files.old) (map string_bytes words.now)
         (O.written out.old) (O.written out.new)) }
+    ensures no_such_job { NameNoJob (map string_bytes words.now) → result ≡ Err Refusal.Words }
 
     ensures read_fault { TellsFault (S.faults files.old) (S.faults files.new) (is_read_fault result) }
     ensures write_fault { TellsFault (O.faults out.old) (O.faults out.new) (is_write_fault result) }

@@ -3,7 +3,7 @@
 ghost use Rattle.std.specs.Prelude.{◌≡◌, ◌⊎◌, ℕ, List, map, string_bytes, IfSome};
 ghost use Rattle.cq_io.specs.Faults.{Rose, TellsFault};
 ghost use Rattle.cqapri_words.specs.Refusals.{Tells, status_of};
-ghost use Rattle.cqapri_words.specs.Requests.{AskFor, NameNothing, Request};
+ghost use Rattle.cqapri_words.specs.Requests.{AskFor, NameNoJob, NameNothing, Request};
 ghost use Rattle.cqapri_words.specs.Words.{FileNames, Settings, AreBenchWords, AreClassifyWords, AreConfirmWords, AreTableWords};
 ghost use Rattle.cqapri_words.specs.declared.refusal.Refusal.{Refusal};
 ghost use Rattle.cqapri_cli.specs.Bench.{PrintsCounts};
@@ -55,6 +55,7 @@ pub fn run<S: Shelf, O: Sink, E: Sink>(
     // Every other end, with the text that says why.
     ensures words { result ≡ Status.Words → NameNothing (map string_bytes words.now) }
     ensures no_job { NameNothing (map string_bytes words.now) → (result ≡ Status.Words) ⊎ (result ≡ Status.NoMemory) }
+    ensures no_such_job { NameNoJob (map string_bytes words.now) → result ≡ Status.Words }
     ensures told { ¬ IsEnd result → (r : Refusal) × (status_of r ≡ result)
         × Explains (S.holds files.old) (S.failing files.old) (map string_bytes words.now) r
         × Tells r (E.written err.old) (E.written err.new) (E.faults err.old) (E.faults err.new) }

@@ -1,5 +1,5 @@
 -- The jobs that words ask for.
-use Rattle.std.specs.Prelude.{◌≡◌, ◌↔◌, ℕ, ◌≤◌, false, List, [], ◌∷◌, Option, Some, option_map}
+use Rattle.std.specs.Prelude.{◌≡◌, ◌≢◌, ◌↔◌, ℕ, ◌≤◌, false, List, [], ◌∷◌, Option, Some, option_map}
 use Rattle.cqapri_words.specs.CommandLine.{faults_in, value_in}
 use Rattle.cqapri_words.specs.Numbers.{number_in}
 use Rattle.cqapri_words.specs.Options.{are_right, job_word}
@@ -35,6 +35,10 @@ AskFor words (bench size) = AreBenchWords words size
 -- the words ask for nothing
 abbrev pub NameNothing : List (List ℕ) → Type 0
 NameNothing words = (request : Request) → ¬ AskFor words request
+
+-- there is no word, or the first is no job's
+abbrev pub NameNoJob : List (List ℕ) → Type 0
+NameNoJob words = (job : Command) (rest : List (List ℕ)) → words ≢ job_word job ∷ rest
 
 -- the values of the options are those of this job
 abbrev pub AreValuesOf : (CommandOption → Option (List ℕ)) → Request → Type 0

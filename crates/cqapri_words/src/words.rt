@@ -1,12 +1,12 @@
 //! What the words ask for.
 
-ghost use Rattle.std.specs.Prelude.{◌≡◌, ◌∷◌, ◌-◌, ◌^◌, Some, true, min, map, string_bytes, IfErr, IfNone, IfOk, IfSome};
+ghost use Rattle.std.specs.Prelude.{◌≡◌, ◌∷◌, ◌-◌, ◌^◌, Some, Err, true, min, map, string_bytes, IfErr, IfNone, IfOk, IfSome};
 ghost use Rattle.cqapri_words.specs.declared.options.Command.TheVariants as command;
 ghost use Rattle.cqapri_words.specs.declared.options.CommandOption.TheVariants as given;
 ghost use Rattle.cqapri_words.specs.CommandLine.{values_of};
 ghost use Rattle.cqapri_words.specs.Jobs.{AreWordsOf, HasNoJob, HasRange, IsJobOf, IsOfWords, names_in, settings_in};
 ghost use Rattle.cqapri_words.specs.Options.{are_right, job_word};
-ghost use Rattle.cqapri_words.specs.Requests.{NameNothing};
+ghost use Rattle.cqapri_words.specs.Requests.{NameNoJob, NameNothing};
 ghost use Rattle.cqapri_words.specs.Words.{AreInRange, AreNamed, FileNames, default_settings, number_or, repairs_in, settings_by};
 
 use crate::command_line::{are_right, matches_of, text_of};
@@ -84,6 +84,7 @@ pub fn job_of(alloc: Global, words: &[String]) -> Result<Job<'_>, Refusal>
     ensures found { IfOk result (AreWordsOf (map string_bytes words.now)) }
     ensures in_range { IfOk result HasRange }
     ensures none { IfErr result (λ r. r ≡ Refusal.Words → NameNothing (map string_bytes words.now)) }
+    ensures no_such_job { NameNoJob (map string_bytes words.now) → result ≡ Err Refusal.Words }
     ensures only { IfErr result IsOfWords }
 {
     let Some((first, rest)) = words.split_first() else {

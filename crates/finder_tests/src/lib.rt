@@ -5,3 +5,5 @@
 mod causes;
 #[cfg(test)]
 mod conflicts;
+#[cfg(test)]
+mod examples;

@@ -149,6 +149,21 @@ fn handle_all(
 
 /// The closure of the query's normal form, breadth first: the moves on each member in the order of `successors`, and each
 /// query that is new behind the members. It takes time in the number of moves on all members.
+///
+/// ```
+/// // Each captain is a sailor, so that a query for sailors finds captains too.
+/// let (captain, sailor) = (Basic::Concept(0), Basic::Concept(1));
+/// let axioms = [Axiom::Sub {
+///     left: captain,
+///     right: sailor,
+/// }];
+/// let x = Term::Var(0);
+/// let head = Vec::from_slice(alloc, &[x])?;
+/// let body = Vec::from_slice(alloc, &[QAtom::Concept { pred: 1, at: x }])?;
+/// let closure = close(alloc, &Cq::new(head, body), &axioms, 1_000)?;
+/// ```
+///
+/// The closure has two members: the query for sailors, and one for captains.
 pub fn close(
     alloc: Global,
     query: &Cq,

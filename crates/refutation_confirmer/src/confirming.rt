@@ -19,6 +19,15 @@ use std::alloc::Global;
 /// breaks a rule, counted from 1, and the first rule that it breaks. `Cycle` comes exactly where the lines up to the last of all
 /// conflicts are right, the head asks for the priority, and it has a cycle. After `Yes` the answers are of the query's candidates, in
 /// order, and each yes and no of them is true.
+///
+/// ```
+/// match confirm(alloc, kb, vocab, query, report)? {
+///     Confirmed::Yes { answers } => Ok(Ok(answers)),
+///     Confirmed::No { line, rule: _ } => Ok(Err(line)),
+/// }
+/// ```
+///
+/// The report that `classify` wrote gives the number of its answers, and an empty one `1`, the line that is missing.
 pub fn confirm(
     alloc: Global,
     kb: &Kb,

@@ -6,6 +6,8 @@ mod arenas;
 #[cfg(test)]
 mod checkers;
 #[cfg(test)]
+mod examples;
+#[cfg(test)]
 mod lessons;
 #[cfg(test)]
 mod solvers;

@@ -1,8 +1,7 @@
 //! Rows on reports that are confirmed.
 
-use crate::desk::{Texts, confirmed};
-use crate::rows::STAFF;
 use cqapri_cli::Status;
+use memory_runs::{STAFF, Texts, confirmed};
 use std::alloc::{AllocError, Global};
 use std::process::Abort;
 use std::test::Fail;

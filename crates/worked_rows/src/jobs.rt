@@ -1,8 +1,8 @@
 //! The jobs `table` and `bench`: what they print, and what they refuse.
 
-use crate::desk::{end_of, ended_over, put_all, tabulated};
 use cq_io::MemShelf;
 use cqapri_cli::Status;
+use memory_runs::{end_of, ended_over, put_all, tabulated};
 use std::alloc::Global;
 use std::process::Abort;
 use std::test::Fail;

@@ -1,8 +1,8 @@
 //! Rows on the lines of reports.
 
-use crate::desk::{Texts, classified};
 use crate::priorities::{QUOTED, WATCHERS};
-use crate::rows::{ALONE, PAIRS, STAFF};
+use crate::rows::{ALONE, PAIRS};
+use memory_runs::{STAFF, Texts, classified};
 use std::alloc::Global;
 use std::process::Abort;
 

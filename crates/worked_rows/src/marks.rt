@@ -1,8 +1,7 @@
 //! Rows on byte order marks, ends of lines, blanks and empty files.
 
-use crate::desk::Texts;
-use crate::rows::STAFF;
 use crate::tables::decides;
+use memory_runs::{STAFF, Texts};
 
 #[test]
 fn marks_and_ends_of_lines_are_skipped(rt: HostRuntime) {

@@ -1,9 +1,8 @@
 //! Rows on priorities between facts.
 
-use crate::desk::{Texts, classified};
-use crate::rows::STAFF;
 use crate::tables::decides;
 use cqapri_cli::Status;
+use memory_runs::{STAFF, Texts, classified};
 use std::test::Fail;
 
 /// Two watchers of one fact, which no chosen repair has.

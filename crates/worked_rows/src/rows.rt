@@ -1,17 +1,9 @@
 //! Rows on queries, axioms and facts without a priority.
 
-use crate::desk::{Texts, classified};
 use crate::tables::{decides, leaves_open};
 use cqapri_cli::Status;
+use memory_runs::{STAFF, Texts, classified};
 use std::test::Fail;
-
-/// Whoever is a professor is of the staff, which no student is; and both are one person.
-pub(crate) const STAFF: Texts<'static> = Texts {
-    ontology: "Prof < Staff\nStudent < not Staff\n",
-    facts: "Prof,ann\nStudent,ann\n",
-    priority: "",
-    query: "?x <- Staff(?x)\n",
-};
 
 /// Two registered pairs of low and high, each of which excludes the other.
 pub(crate) const PAIRS: Texts<'static> = Texts {

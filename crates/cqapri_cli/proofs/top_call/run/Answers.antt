@@ -1,6 +1,8 @@
-use Rattle.std.proofs.Common.{map, string_bytes, sym, ap, ◌∙◌, subst}
+use Rattle.std.proofs.Common.{◌≡◌, map, string_bytes, sym, ap, ◌∙◌, subst}
 use Rattle.cq_io.specs.Faults.{TellsFault}
+use Rattle.cqapri_words.specs.Refusals.{status_of}
 use Rattle.cqapri_words.specs.Requests as request
+use Rattle.cqapri_words.specs.declared.refusal.Refusal.TheVariants as refusal
 use Rattle.cqapri_words.specs.declared.status.Status.TheVariants as status
 use Rattle.cqapri_cli.specs.Ends.{IsEnd, WritesNothing, is_read_status, is_write_status}
 use Rattle.cqapri_cli.proofs.RunLemmas.{achieved, by_status, complete_end, complete_refused, end_no_fault, end_not, end_writes, explained, never_end, no_job_refused, none_or_part}
@@ -68,6 +70,10 @@ pub returns-in-Ok-clause-no_job : goal.returns-in-Ok-clause-no_job
 returns-in-Ok-clause-no_job g c =
     let (q, w, a) = c.in-Ok.ensures.achieved in
     λ n. absurd (n q w)
+
+pub returns-in-Ok-clause-no_such_job : goal.returns-in-Ok-clause-no_such_job
+returns-in-Ok-clause-no_such_job g c =
+    λ n. absurd (let refused = c.run_words.ensures.no_such_job n in let ended = c.in-Ok.is in cc)
 
 pub returns-in-Ok-clause-told : goal.returns-in-Ok-clause-told
 returns-in-Ok-clause-told g c =
@@ -169,6 +175,16 @@ returns-in-Err-clause-no_job g c =
     let r = c.in-Err.refusal in
     let e = c.status.ensures.exact in
     λ n. by_status r c.status.result e (no_job_refused holds failing words r (explained holds failing old new words r c.in-Err.ensures.refused) n)
+
+pub returns-in-Err-clause-no_such_job : goal.returns-in-Err-clause-no_such_job
+returns-in-Err-clause-no_such_job g c =
+    let r = c.in-Err.refusal in
+    let e = c.status.ensures.exact in
+    λ n.
+    let refused = c.run_words.ensures.no_such_job n in
+    let given = c.in-Err.is in
+    let same : r ≡ refusal.Words = cc in
+    e ∙ ap status_of same
 
 pub returns-in-Err-clause-told : goal.returns-in-Err-clause-told
 returns-in-Err-clause-told g c =

@@ -1,9 +1,8 @@
 //! How often the output is flushed, and when.
 
-use crate::desk::{put_all, shelf, sink};
-use crate::rows::STAFF;
 use cq_io::{Failed, MemSink, Sink};
 use cqapri_cli::{Status, run};
+use memory_runs::{STAFF, put_all, shelf, sink};
 use std::alloc::Global;
 use std::process::Abort;
 use std::test::Fail;

@@ -1,9 +1,9 @@
 //! Rows that are refused.
 
-use crate::desk::{Texts, classified, end_of, shelf, words};
 use crate::tables::decides;
 use cq_io::MemShelf;
 use cqapri_cli::Status;
+use memory_runs::{Texts, classified, end_of, shelf, words};
 use std::alloc::{AllocError, Global};
 use std::process::Abort;
 use std::test::Fail;

@@ -1,8 +1,7 @@
 //! Files that are missing, and shelves and writes that fail.
 
-use crate::desk::{Ended, Texts, end_of, shelf, words};
-use crate::rows::STAFF;
 use cqapri_cli::Status;
+use memory_runs::{Ended, STAFF, Texts, end_of, shelf, words};
 use std::alloc::Global;
 use std::process::Abort;
 use std::test::Fail;

@@ -1,4 +1,4 @@
-//! What the rows run on.
+//! Runs over a shelf and sinks in memory.
 
 use cq_io::{MemShelf, MemSink};
 use cq_terms::NoMemory;
@@ -8,24 +8,39 @@ use std::test::Fail;
 
 /// The texts of a row: the ontology, the facts, the priority, which isn't named where it is empty, and the query.
 #[derive(Clone, Copy, Debug)]
-pub(crate) struct Texts<'a> {
-    pub(crate) ontology: &'a str,
-    pub(crate) facts: &'a str,
-    pub(crate) priority: &'a str,
-    pub(crate) query: &'a str,
+pub struct Texts<'a> {
+    /// The text of the axioms.
+    pub ontology: &'a str,
+    /// The text of the facts.
+    pub facts: &'a str,
+    /// The text of the priority.
+    pub priority: &'a str,
+    /// The text of the query.
+    pub query: &'a str,
 }
+
+/// Whoever is a professor is of the staff, which no student is; and both are one person.
+pub const STAFF: Texts<'static> = Texts {
+    ontology: "Prof < Staff\nStudent < not Staff\n",
+    facts: "Prof,ann\nStudent,ann\n",
+    priority: "",
+    query: "?x <- Staff(?x)\n",
+};
 
 /// What a run has written, and its end.
 #[derive(Drop)]
-pub(crate) struct Ended {
-    pub(crate) status: Status,
-    pub(crate) out: MemSink,
-    pub(crate) err: MemSink,
+pub struct Ended {
+    /// The status.
+    pub status: Status,
+    /// The output.
+    pub out: MemSink,
+    /// What `err` got.
+    pub err: MemSink,
 }
 
 impl Ended {
     /// Whether the run ended with the status, with the texts on `out` and on `err`.
-    pub(crate) fn is(&self, status: Status, out: &str, err: &str) -> bool {
+    pub fn is(&self, status: Status, out: &str, err: &str) -> bool {
         self.status == status
             && self.out.written() == out.as_bytes()
             && self.err.written() == err.as_bytes()
@@ -33,7 +48,7 @@ impl Ended {
 }
 
 /// The words of the job on the files of a row, and more.
-pub(crate) fn words(
+pub fn words(
     alloc: Global,
     job: &str,
     texts: &Texts<'_>,
@@ -50,7 +65,7 @@ pub(crate) fn words(
 }
 
 /// Puts texts behind the words.
-pub(crate) fn put_all(words: &mut Vec<String>, texts: &[&str]) -> Result<(), AllocError> {
+pub fn put_all(words: &mut Vec<String>, texts: &[&str]) -> Result<(), AllocError> {
     for text in texts {
         words.push(String::from_str(*words.allocator(), text)?)?;
     }
@@ -58,7 +73,7 @@ pub(crate) fn put_all(words: &mut Vec<String>, texts: &[&str]) -> Result<(), All
 }
 
 /// A shelf with the files of a row.
-pub(crate) fn shelf(alloc: Global, texts: &Texts<'_>) -> Result<MemShelf, NoMemory> {
+pub fn shelf(alloc: Global, texts: &Texts<'_>) -> Result<MemShelf, NoMemory> {
     let mut shelf = MemShelf::new(alloc);
     shelf.put("o", texts.ontology.as_bytes())?;
     shelf.put("f", texts.facts.as_bytes())?;
@@ -68,14 +83,14 @@ pub(crate) fn shelf(alloc: Global, texts: &Texts<'_>) -> Result<MemShelf, NoMemo
 }
 
 /// A sink with room for what a row writes.
-pub(crate) fn sink(alloc: Global, fail_after: Option<u64>) -> Result<MemSink, NoMemory> {
+pub fn sink(alloc: Global, fail_after: Option<u64>) -> Result<MemSink, NoMemory> {
     let mut sink = MemSink::new(alloc, fail_after);
     sink.reserve(100_000)?;
     Ok(sink)
 }
 
 /// The end of a run with the words on the shelf.
-pub(crate) fn end_of(
+pub fn end_of(
     alloc: Global,
     words: &[String],
     files: &mut MemShelf,
@@ -88,7 +103,7 @@ pub(crate) fn end_of(
 }
 
 /// The end of `classify` on the files of a row, with more words.
-pub(crate) fn classified(alloc: Global, texts: &Texts<'_>, more: &[&str]) -> Result<Ended, Fail> {
+pub fn classified(alloc: Global, texts: &Texts<'_>, more: &[&str]) -> Result<Ended, Fail> {
     let words = words(alloc, "classify", texts, more)?;
     let mut files = shelf(alloc, texts)?;
     let ended = end_of(alloc, &words, &mut files, None)?;
@@ -96,7 +111,7 @@ pub(crate) fn classified(alloc: Global, texts: &Texts<'_>, more: &[&str]) -> Res
 }
 
 /// The end of `confirm` of the report on the files of a row.
-pub(crate) fn confirmed(alloc: Global, texts: &Texts<'_>, report: &[u8]) -> Result<Ended, Fail> {
+pub fn confirmed(alloc: Global, texts: &Texts<'_>, report: &[u8]) -> Result<Ended, Fail> {
     let words = words(alloc, "confirm", texts, &["--report", "r"])?;
     let mut files = shelf(alloc, texts)?;
     files.put("r", report)?;
@@ -105,7 +120,7 @@ pub(crate) fn confirmed(alloc: Global, texts: &Texts<'_>, report: &[u8]) -> Resu
 }
 
 /// The end of a run with these words alone, over a shelf with the report `r`.
-pub(crate) fn ended_over(
+pub fn ended_over(
     alloc: Global,
     texts: &[&str],
     report: &[u8],
@@ -120,6 +135,6 @@ pub(crate) fn ended_over(
 }
 
 /// The end of `table` of the report.
-pub(crate) fn tabulated(alloc: Global, report: &[u8]) -> Result<Ended, Fail> {
+pub fn tabulated(alloc: Global, report: &[u8]) -> Result<Ended, Fail> {
     ended_over(alloc, &["table", "--report", "r"], report, None)
 }

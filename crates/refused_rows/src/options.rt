@@ -1,9 +1,8 @@
 //! Words and options.
 
-use crate::desk::{Texts, classified, end_of, put_all, shelf};
-use crate::rows::STAFF;
 use crate::tables::decides;
 use cqapri_cli::Status;
+use memory_runs::{STAFF, Texts, classified, end_of, put_all, shelf};
 use std::alloc::Global;
 use std::process::Abort;
 use std::test::Fail;
@@ -76,28 +75,6 @@ fn confirm_takes_no_options_of_classify(rt: HostRuntime) {
         "all",
     ];
     refuses(&rt, alloc, &files);
-}
-
-#[test]
-fn table_takes_a_report_alone(rt: HostRuntime) {
-    let alloc = rt.alloc();
-    refuses(&rt, alloc, &["table"]);
-    refuses(&rt, alloc, &["table", "--report"]);
-    refuses(&rt, alloc, &["table", "--report", "r", "--report", "r"]);
-    refuses(&rt, alloc, &["table", "--report", "r", "--query", "q"]);
-    refuses(&rt, alloc, &["table", "--report", "-r"]);
-    refuses(&rt, alloc, &["table", "--rep", "r"]);
-}
-
-#[test]
-fn bench_takes_a_size_alone(rt: HostRuntime) {
-    let alloc = rt.alloc();
-    refuses(&rt, alloc, &["bench"]);
-    refuses(&rt, alloc, &["bench", "--size", "0"]);
-    refuses(&rt, alloc, &["bench", "--size", "20001"]);
-    refuses(&rt, alloc, &["bench", "--size", "5", "--size", "5"]);
-    refuses(&rt, alloc, &["bench", "--size", "5", "--budget", "5"]);
-    refuses(&rt, alloc, &["bench", "5"]);
 }
 
 /// The status of a run with the words.
