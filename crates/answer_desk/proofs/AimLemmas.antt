@@ -11,10 +11,10 @@ use Rattle.priority_graph.proofs.SplitLemmas.{has_true}
 use Rattle.repair_clauses.specs.BaseClauses.{present, absent}
 use Rattle.repair_clauses.proofs.ListLemmas.{one_of}
 use Rattle.repair_clauses.proofs.LiteralLemmas.{variable_of-present, variable_of-absent}
-use Rattle.answer_desk.specs.declared.aim.Aim.{Aim}
-use Rattle.answer_desk.specs.declared.aim.Aim.TheVariants as aim
-use Rattle.answer_desk.specs.declared.opening.Opening.{Opening}
-use Rattle.answer_desk.specs.Aims.{IsOver, assumed_for}
+use Rattle.answer_evidence.specs.declared.aim.Aim.{Aim}
+use Rattle.answer_evidence.specs.declared.aim.Aim.TheVariants as aim
+use Rattle.answer_evidence.specs.declared.opening.Opening.{Opening}
+use Rattle.answer_evidence.specs.Aims.{IsOver, assumed_for}
 use Rattle.answer_desk.specs.Openings.{IsOpen}
 use Rattle.answer_desk.proofs.OpenLemmas.{in_facts, in_scope_selector, cause_inside}
 

@@ -7,13 +7,13 @@ use Rattle.cdcl_core.specs.State.{State}
 use Rattle.report_text.specs.declared.line.Line.{Line}
 use Rattle.report_text.specs.declared.line.Line.TheVariants as line
 use Rattle.report_text.specs.Reports.{AddsLine, StayTold}
-use Rattle.answer_desk.specs.declared.evidence.Evidence.{Evidence}
+use Rattle.answer_evidence.specs.declared.evidence.Evidence.{Evidence}
 use Rattle.answer_desk.specs.declared.plan.Verdicts.{Verdicts}
 use Rattle.answer_desk.specs.declared.plan.ClassifyFault.{ClassifyFault}
-use Rattle.answer_desk.specs.Answering.{TellTruth, DecideOverAll, DecideByBudget, AnswersRight, WritesRight, AgreesOnAnswer}
+use Rattle.answer_desk.specs.Answering.{TellTruth, DecideOverAll, DecideByBudget, AnswersRight, WritesRight, AgreesOnAnswer, SaysVerdicts}
 use Rattle.answer_desk.specs.Desks.{DeskState}
-use Rattle.answer_desk.specs.Loading.{IsRange}
-use Rattle.answer_desk.specs.Shown.{SaysVerdicts, answer_line}
+use Rattle.answer_evidence.specs.Ranges.{IsRange}
+use Rattle.answer_evidence.specs.Shown.{answer_line}
 use Rattle.answer_desk.specs.Following.{Frame, frame_of, Stage, AtEnd, FollowsOpen, GoesOn, Stops, StopsAfter, AddsLines}
 use Rattle.answer_desk.proofs.FollowingLineLemmas.{AddsLines-none, AddsLines-one, AddsLines-then, goes_then, stops_then}
 use Rattle.answer_desk.proofs.FollowingEndLemmas.{tells_truth, decides_over_all, decides_by_budget, desk_after}

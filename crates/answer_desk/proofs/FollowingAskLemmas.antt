@@ -14,21 +14,21 @@ use Rattle.report_text.specs.declared.line.How.{How}
 use Rattle.report_text.specs.declared.line.How.TheVariants as how
 use Rattle.report_text.specs.declared.line.Question.TheVariants as question
 use Rattle.cdcl_core.specs.declared.outcome.Budget.{Budget}
-use Rattle.answer_desk.specs.declared.evidence.Evidence.{Evidence}
-use Rattle.answer_desk.specs.declared.opening.Opening.{Opening}
+use Rattle.answer_evidence.specs.declared.evidence.Evidence.{Evidence}
+use Rattle.answer_evidence.specs.declared.opening.Opening.{Opening}
 use Rattle.answer_desk.specs.declared.work.Work.{Work}
 use Rattle.answer_desk.specs.Openings.{HasRoom, Spends, IsSameOpening}
 use Rattle.answer_desk.specs.Asking.{IsCauseAt, PlaceGoesOn, IarGoesOn}
 use Rattle.answer_desk.specs.Following.{Frame, IsFrameFor, Stage, AtBrave, AtIar, AtEnd, FollowsOpen, GoesOn, CauseGoesOn, StopsAfter, IarIsOver}
 use Rattle.answer_desk.specs.Following.{AddsLines, SeesAr}
 use Rattle.answer_desk.specs.PlacesOver.{PlaceIsOver, PlacesStayOver, IsAskedAt, FactIsSeen}
-use Rattle.answer_desk.specs.Shown.{is_undecided, verdict_in}
+use Rattle.answer_evidence.specs.Shown.{is_undecided, verdict_in}
 use Rattle.answer_desk.specs.Trying.{Try, Search, Tries, cores_after}
 use Rattle.answer_desk.proofs.FollowingAnswerLemmas.{goes_twice, goes_stops}
 use Rattle.answer_desk.proofs.FollowingLineLemmas.{AddsLines-none}
 use Rattle.answer_desk.proofs.FollowingPlaceLemmas.{place_over, places_over, places_same, places_then}
 use Rattle.answer_desk.proofs.FollowingStepLemmas.{brave_skips, brave_ends, iar_sure}
-use Rattle.answer_desk.proofs.SetLemmas.{each_at}
+use Rattle.answer_evidence.proofs.SetLemmas.{each_at}
 use Rattle.answer_desk.proofs.SolverLemmas.{variables-with_all}
 
 -- ---- whether a question is settled

@@ -21,12 +21,12 @@ use Rattle.report_laws.proofs.OverPriorityLemmas.{conflicts_of_priority}
 use Rattle.report_laws.proofs.ScopeLemmas.{components_scope}
 use Rattle.report_laws.proofs.ScopeLines.{scope_begins}
 use Rattle.report_laws.proofs.StartLemmas.{starts_carry_apart}
-use Rattle.answer_desk.specs.declared.evidence.Evidence.{Evidence}
-use Rattle.answer_desk.specs.Desks.{IsFreeCause, given_in, learned_in}
-use Rattle.answer_desk.specs.Sets.{SomeWithin, EachMeets}
-use Rattle.answer_desk.specs.Shown.{ShowsNothing}
-use Rattle.answer_desk.specs.Following.{Frame, own_selector, IsToldBefore, IsBaseOf, IsFrame, ShowsCores, ShowsTries}
-use Rattle.answer_desk.specs.Following.{AtBrave, Shows, FollowsOpen}
+use Rattle.answer_evidence.specs.declared.evidence.Evidence.{Evidence}
+use Rattle.answer_desk.specs.Desks.{given_in, learned_in}
+use Rattle.answer_evidence.specs.FreeCauses.{IsFreeCause}
+use Rattle.answer_evidence.specs.Sets.{SomeWithin, EachMeets}
+use Rattle.answer_evidence.specs.Shown.{ShowsNothing}
+use Rattle.answer_desk.specs.Following.{Frame, own_selector, IsToldBefore, IsBaseOf, IsFrame, ShowsCores, ShowsTries, AtBrave, Shows, FollowsOpen}
 
 -- ---- no line shows anything
 

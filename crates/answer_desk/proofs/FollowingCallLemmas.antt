@@ -16,16 +16,15 @@ use Rattle.report_text.specs.declared.line.How.TheVariants as how
 use Rattle.report_text.specs.declared.line.Question.TheVariants as question
 use Rattle.report_rules.specs.Clauses.{IsCauseClause}
 use Rattle.report_laws.specs.Bounds.{AreReached}
-use Rattle.answer_desk.specs.declared.aim.Aim.{Aim}
-use Rattle.answer_desk.specs.declared.aim.Aim.TheVariants as aim
-use Rattle.answer_desk.specs.declared.evidence.Evidence.{Evidence}
-use Rattle.answer_desk.specs.declared.opening.Opening.{Opening}
+use Rattle.answer_evidence.specs.declared.aim.Aim.{Aim}
+use Rattle.answer_evidence.specs.declared.aim.Aim.TheVariants as aim
+use Rattle.answer_evidence.specs.declared.evidence.Evidence.{Evidence}
+use Rattle.answer_evidence.specs.declared.opening.Opening.{Opening}
 use Rattle.answer_desk.specs.Desks.{DeskState, MayAnswer, IsReady, given_in, learned_in}
 use Rattle.answer_desk.specs.Loading.{Loads}
 use Rattle.answer_desk.specs.Openings.{IsOpen}
-use Rattle.answer_desk.specs.Shown.{ShowsNothing, SeesCore, SeesRefuted, SeesSpent, SeesIar, SaysHow}
-use Rattle.answer_desk.specs.Shown.{is_undecided, verdict_in, is_yes, is_no, is_ar_no, is_brave_no}
-use Rattle.answer_desk.specs.Shown.{all_true}
+use Rattle.answer_evidence.specs.Shown.{ShowsNothing, SeesCore, SeesRefuted, SeesSpent, SeesIar, SaysHow, all_true}
+use Rattle.answer_evidence.specs.Shown.{is_undecided, verdict_in, is_yes, is_no, is_ar_no, is_brave_no}
 use Rattle.answer_desk.specs.PlacesOver.{PlaceIsOver, PlacesStayOver, FactIsSeen}
 use Rattle.answer_desk.specs.Trying.{Search, Tries, BreaksOff, Gets, cores_after}
 use Rattle.answer_desk.specs.Following.{Frame, frame_of, own_selector, own_scope, IsFrame, IsFrameFor, Stage, AtBrave, AtIar, AtEnd, FollowsOpen, FollowsTry}

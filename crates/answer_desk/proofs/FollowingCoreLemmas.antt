@@ -36,9 +36,9 @@ use Rattle.report_laws.proofs.BoundLemmas.{graph_tells}
 use Rattle.report_laws.proofs.OverPriorityLemmas.{conflicts_of_priority, some_base}
 use Rattle.report_laws.proofs.PriorityLemmas.{base_of_priority}
 use Rattle.report_laws.proofs.ScopeLemmas.{components_scope, base_inside, causes_inside}
-use Rattle.answer_desk.specs.Aims.{IsCoreOver}
-use Rattle.answer_desk.specs.Desks.{IsFreeCause}
-use Rattle.answer_desk.specs.Sets.{EachMeets}
+use Rattle.answer_evidence.specs.Aims.{IsCoreOver}
+use Rattle.answer_evidence.specs.FreeCauses.{IsFreeCause}
+use Rattle.answer_evidence.specs.Sets.{EachMeets}
 use Rattle.answer_desk.specs.Following.{Frame, own_selector, own_scope, IsBaseOf, IsFrame, Follows}
 use Rattle.answer_desk.proofs.LiveLemmas.{live_from}
 use Rattle.answer_desk.proofs.FollowingShowLemmas.{absent_one}

@@ -22,10 +22,10 @@ use Rattle.report_laws.specs.OpenAnswers.{Tells}
 use Rattle.report_laws.proofs.BaseClauseLemmas.{means}
 use Rattle.priority_graph.specs.Priority.{Priority, IsPriority}
 use Rattle.priority_graph.proofs.DirectLemmas.{Conflict-sym, conflict_below}
-use Rattle.answer_desk.specs.declared.evidence.Evidence.{Evidence}
+use Rattle.answer_evidence.specs.declared.evidence.Evidence.{Evidence}
 use Rattle.answer_desk.specs.Following.{Frame, own_scope, lines_on, IsToldBefore, IsBaseOf, Follows, Stage, FollowsTry, try_lines, core_lines}
 use Rattle.answer_desk.specs.Following.{IsNextInside}
-use Rattle.answer_desk.specs.Aims.{IsCoreOver}
+use Rattle.answer_evidence.specs.Aims.{IsCoreOver}
 use Rattle.answer_desk.proofs.FollowingLineLemmas.{skip_learns}
 use Rattle.answer_desk.proofs.FollowingSearchLemmas.{IsTrying, told_by, trying_on, steps, stands, refuted_there, refuted_back, follows_done, follows_core}
 

@@ -37,11 +37,12 @@ use Rattle.report_laws.proofs.OverPriorityLemmas.{some_base}
 use Rattle.report_laws.proofs.ScopeLemmas.{base_known}
 use Rattle.report_laws.proofs.StartLemmas.{start_told}
 use Rattle.report_laws.proofs.TryCounts.{clauses_are_few}
-use Rattle.answer_desk.specs.declared.evidence.Evidence.{Evidence}
+use Rattle.answer_evidence.specs.declared.evidence.Evidence.{Evidence}
 use Rattle.answer_desk.specs.declared.plan.Verdicts.{Verdicts}
-use Rattle.answer_desk.specs.Answering.{TellTruth, DecideOverAll, DecideByBudget}
-use Rattle.answer_desk.specs.Desks.{DeskState, start_at, IsFreeCause, MayAnswer, IsReady, given_in, put_given, learned_in, put_learned}
-use Rattle.answer_desk.specs.Shown.{SaysVerdicts, verdict_in}
+use Rattle.answer_desk.specs.Answering.{TellTruth, DecideOverAll, DecideByBudget, SaysVerdicts}
+use Rattle.answer_desk.specs.Desks.{DeskState, start_at, MayAnswer, IsReady, given_in, put_given, learned_in, put_learned}
+use Rattle.answer_evidence.specs.FreeCauses.{IsFreeCause}
+use Rattle.answer_evidence.specs.Shown.{verdict_in}
 use Rattle.answer_desk.specs.Following.{Frame, frame_of, own_selector, lines_on, IsBaseOf, IsFrame, Follows, Stage, AtEnd, FollowsOpen}
 use Rattle.answer_desk.proofs.FollowingLineLemmas.{count_cores-on}
 use Rattle.answer_desk.proofs.FollowingVerdictLemmas.{verdict_said}

@@ -13,8 +13,8 @@ use Rattle.report_rules.specs.Tries.{count_cores}
 use Rattle.report_rules.specs.Live.{count_learned, same_question}
 use Rattle.report_laws.specs.DeskAnswers.{ask_line}
 use Rattle.report_laws.proofs.ListLemmas.{reverse-cons}
-use Rattle.answer_desk.specs.Logging.{learn_line, AddsLearns}
-use Rattle.answer_desk.specs.declared.evidence.Evidence.{Evidence}
+use Rattle.answer_evidence.specs.Logging.{learn_line, AddsLearns}
+use Rattle.answer_evidence.specs.declared.evidence.Evidence.{Evidence}
 use Rattle.cdcl_core.specs.State.{State}
 use Rattle.answer_desk.specs.Following.{Frame, Stage, FollowsOpen, lines_on, learn_lines, try_lines, AddsLines, Stops, StopsAfter, GoesOn}
 

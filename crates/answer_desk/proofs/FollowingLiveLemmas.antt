@@ -21,7 +21,7 @@ use Rattle.report_laws.proofs.BoundLemmas.{graph_tells}
 use Rattle.report_laws.proofs.OverPriorityLemmas.{conflicts_of_priority}
 use Rattle.report_laws.proofs.StartLemmas.{starts_carry, starts_carry_apart}
 use Rattle.report_laws.proofs.DeskLemmas.{added_answer, added_learn, options_stay}
-use Rattle.answer_desk.specs.Desks.{IsFreeCause}
+use Rattle.answer_evidence.specs.FreeCauses.{IsFreeCause}
 use Rattle.answer_desk.specs.Following.{Frame, own_selector, own_scope, lines_on, IsBaseOf, Follows}
 use Rattle.answer_desk.proofs.LiveLemmas.{live_cases, live_from}
 

@@ -8,13 +8,12 @@ use Rattle.report_text.specs.declared.line.Line.{Line}
 use Rattle.report_text.specs.declared.line.How.{How}
 use Rattle.report_text.specs.declared.line.How.TheVariants as how
 use Rattle.report_text.specs.declared.line.Question.TheVariants as question
-use Rattle.answer_desk.specs.declared.aim.Aim.TheVariants as aim
-use Rattle.answer_desk.specs.Aims as aims
-use Rattle.answer_desk.specs.declared.evidence.Evidence.{Evidence}
-use Rattle.answer_desk.specs.Sets.{SomeWithin}
-use Rattle.answer_desk.specs.Shown.{SeesCore, SeesRefuted, SeesSpent, SeesIar, SaysHow, is_undecided}
-use Rattle.answer_desk.specs.Shown.{verdict_in, verdict_by, is_yes, is_no, is_ar_no, is_brave_no}
-use Rattle.answer_desk.specs.Shown.{all_true}
+use Rattle.answer_evidence.specs.declared.aim.Aim.TheVariants as aim
+use Rattle.answer_evidence.specs.Aims as aims
+use Rattle.answer_evidence.specs.declared.evidence.Evidence.{Evidence}
+use Rattle.answer_evidence.specs.Sets.{SomeWithin}
+use Rattle.answer_evidence.specs.Shown.{SeesCore, SeesRefuted, SeesSpent, SeesIar, SaysHow, is_undecided, all_true}
+use Rattle.answer_evidence.specs.Shown.{verdict_in, verdict_by, is_yes, is_no, is_ar_no, is_brave_no}
 use Rattle.answer_desk.specs.PlacesOver.{PlaceIsOver, PlacesStayOver, FactIsSeen}
 use Rattle.answer_desk.specs.Trying.{Try, Search, Tries}
 use Rattle.answer_desk.specs.Following.{IarIsOver}

@@ -28,13 +28,13 @@ use Rattle.report_laws.specs.OpenAnswers.{HasNextNumber, CoresAreNumbered, Cores
 use Rattle.report_laws.specs.DeskAnswers.{ask_line, AreRightInside}
 use Rattle.report_laws.proofs.NumberLemmas.{cores_go_on}
 use Rattle.report_laws.proofs.StartLemmas.{inside_right}
-use Rattle.answer_desk.specs.declared.evidence.Evidence.{Evidence}
+use Rattle.answer_evidence.specs.declared.evidence.Evidence.{Evidence}
 use Rattle.answer_desk.specs.declared.plan.Verdicts.{Verdicts}
 use Rattle.answer_desk.specs.declared.plan.ClassifyFault.{ClassifyFault}
 use Rattle.answer_desk.specs.Answering.{AreRightAfter, IsOfTry, IsNext, AnswersRight}
 use Rattle.answer_desk.specs.Desks.{DeskState, start_at, answer_lines, Agrees, learned_in}
-use Rattle.answer_desk.specs.Loading.{IsRange}
-use Rattle.answer_desk.specs.Shown.{answer_line, verdict_in}
+use Rattle.answer_evidence.specs.Ranges.{IsRange}
+use Rattle.answer_evidence.specs.Shown.{answer_line, verdict_in}
 use Rattle.answer_desk.specs.Following.{Frame, frame_of, lines_on, IsToldBefore, AtEnd, Shows, FollowsOpen, HasNumber, AreNumbered}
 use Rattle.answer_desk.specs.Following.{AddsLines, IsNextInside, Stops}
 use Rattle.answer_desk.proofs.FollowingLineLemmas.{count_learned-on, count_cores-on}

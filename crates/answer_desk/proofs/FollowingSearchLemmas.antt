@@ -32,9 +32,9 @@ use Rattle.report_laws.specs.OpenAnswers.{RightInside, Tells}
 use Rattle.report_laws.specs.Scopes.{scope_of, KeepsScope}
 use Rattle.report_laws.specs.SolverSteps.{IsSolving, StepsAreRight, IsRefutedIn}
 use Rattle.report_laws.proofs.SolverLemmas.{steps_right}
-use Rattle.answer_desk.specs.declared.evidence.Evidence.{Evidence}
+use Rattle.answer_evidence.specs.declared.evidence.Evidence.{Evidence}
 use Rattle.answer_desk.specs.Desks.{given_in, learned_in}
-use Rattle.answer_desk.specs.Logging.{learn_line}
+use Rattle.answer_evidence.specs.Logging.{learn_line}
 use Rattle.answer_desk.specs.Following.{Frame, own_selector, own_scope, lines_on, IsToldBefore, IsBaseOf, Follows, Stage, FollowsOpen, FollowsTry}
 use Rattle.answer_desk.specs.Following.{learn_lines, try_lines, IsNextInside, Stops}
 use Rattle.answer_desk.proofs.FollowingLineLemmas.{learn_lines_more, question_own, try_lines_on}

@@ -16,9 +16,9 @@ use Rattle.report_rules.specs.Tries.{Asked, Tried, Ended, NamesCore, count_cores
 use Rattle.report_rules.specs.Evidence.{SomeCore, Meets}
 use Rattle.report_rules.specs.TryRules.{ShowsAsked}
 use Rattle.report_laws.specs.OpenAnswers.{CoresAreNumbered}
-use Rattle.answer_desk.specs.declared.evidence.Evidence.{Evidence}
-use Rattle.answer_desk.specs.Sets.{SomeWithin, EachMeets}
-use Rattle.answer_desk.specs.Shown.{SeesCore, SeesRefuted, OnlyCores}
+use Rattle.answer_evidence.specs.declared.evidence.Evidence.{Evidence}
+use Rattle.answer_evidence.specs.Sets.{SomeWithin, EachMeets}
+use Rattle.answer_evidence.specs.Shown.{SeesCore, SeesRefuted, OnlyCores}
 use Rattle.answer_desk.specs.Following.{Frame, own_selector, ShowsCores, ShowsTries, TriesHaveEnded, HasEnded, Stage, Stands, Shows}
 use Rattle.answer_desk.proofs.FollowingTailLemmas.{AddsTry, SameCores, OneCore, some_same, some_one}
 

@@ -23,12 +23,12 @@ use Rattle.priority_graph.specs.Inputs.{IsPriorityOf}
 use Rattle.report_laws.specs.OpenAnswers.{Tells}
 use Rattle.report_laws.proofs.OverPriorityLemmas.{some_base}
 use Rattle.report_laws.proofs.StartLemmas.{start_told}
-use Rattle.answer_desk.specs.declared.evidence.Evidence.{Evidence}
-use Rattle.answer_desk.specs.Sets.{EachMeets}
-use Rattle.answer_desk.specs.Shown.{SeesCore, SeesRefuted, is_undecided, verdict_in, verdict_by, is_yes, is_no, is_ar_no, is_brave_no, all_true}
+use Rattle.answer_evidence.specs.declared.evidence.Evidence.{Evidence}
+use Rattle.answer_evidence.specs.Sets.{EachMeets}
+use Rattle.answer_evidence.specs.Shown.{SeesCore, SeesRefuted, is_undecided, verdict_in, verdict_by, is_yes, is_no, is_ar_no, is_brave_no, all_true}
 use Rattle.answer_desk.specs.Following.{Frame, own_selector, own_scope, lines_on, IsToldBefore, IsBaseOf, IsFrame, HasEnded, Stage, AtBrave, AtIar, AtEnd}
 use Rattle.answer_desk.specs.Following.{IsAtBrave, IsAtIar}
-use Rattle.answer_desk.specs.Aims.{IsCoreOver}
+use Rattle.answer_evidence.specs.Aims.{IsCoreOver}
 use Rattle.answer_desk.specs.Following.{BraveIsOver, IarIsOver, Stands, Shows, ShowsTries, Follows, FollowsOpen, FollowsTry, try_lines, core_lines}
 use Rattle.answer_desk.proofs.FollowingLineLemmas.{try_lines_on, skip_learns, count_cores-on}
 use Rattle.answer_desk.proofs.FollowingVerdictLemmas.{all_true_at, all_true_from}

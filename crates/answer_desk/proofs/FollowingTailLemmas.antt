@@ -13,7 +13,7 @@ use Rattle.report_rules.specs.Tries.{asked, question_of, assumed, Tried, Ended, 
 use Rattle.report_rules.specs.Live.{learned_for, same_question}
 use Rattle.report_rules.specs.Evidence.{SomeCore}
 use Rattle.report_laws.specs.OpenAnswers.{CoresAreNumbered}
-use Rattle.answer_desk.specs.Logging.{learn_line}
+use Rattle.answer_evidence.specs.Logging.{learn_line}
 use Rattle.answer_desk.specs.Following.{learn_lines, try_lines, core_lines}
 use Rattle.answer_desk.proofs.FollowingLineLemmas.{learn_lines_more, skip_learns, skip_learns_for}
 use Rattle.answer_desk.proofs.FollowingSearchLemmas.{trying_all}

@@ -19,13 +19,13 @@ use Rattle.report_text.specs.declared.line.How.{How}
 use Rattle.report_text.specs.declared.line.How.TheVariants as how
 use Rattle.report_rules.specs.TryRules.{IsEasy, ShowsAsked}
 use Rattle.report_laws.specs.DeskAnswers.{IsAnsweredOver}
-use Rattle.answer_desk.specs.declared.aim.Aim.{Aim}
-use Rattle.answer_desk.specs.declared.aim.Aim.TheVariants as aim
-use Rattle.answer_desk.specs.declared.evidence.Evidence.{Evidence}
-use Rattle.answer_desk.specs.Aims as aims
-use Rattle.answer_desk.specs.Aims.{asked_for, assumed_for, IsHard}
-use Rattle.answer_desk.specs.Logging.{learn_line}
-use Rattle.answer_desk.specs.Sets.{EachMeets}
+use Rattle.answer_evidence.specs.declared.aim.Aim.{Aim}
+use Rattle.answer_evidence.specs.declared.aim.Aim.TheVariants as aim
+use Rattle.answer_evidence.specs.declared.evidence.Evidence.{Evidence}
+use Rattle.answer_evidence.specs.Aims as aims
+use Rattle.answer_evidence.specs.Aims.{asked_for, assumed_for, IsHard}
+use Rattle.answer_evidence.specs.Logging.{learn_line}
+use Rattle.answer_evidence.specs.Sets.{EachMeets}
 use Rattle.answer_desk.specs.Trying as trying
 use Rattle.answer_desk.specs.Trying.{Try, Search, Learnt, Tries, BreaksOff, BreaksAs, LearnsLast, HasCoreLast, IsPartOf, Gets, torn_part, try_line}
 use Rattle.answer_desk.specs.Trying.{lines_of, EndsAs, cores_after}
@@ -33,7 +33,7 @@ use Rattle.answer_desk.specs.Following.{Frame, own_selector, own_scope, IsBaseOf
 use Rattle.answer_desk.specs.Following.{learn_lines, try_lines, IsNextInside, Stops, StopsAfter, AddsLines, IsFrameFor, GoesOn, CauseGoesOn}
 use Rattle.answer_desk.specs.Following.{SeesBrave, SeesAr}
 use Rattle.answer_desk.specs.Following.{AtBrave, AtIar, AtEnd, IarIsOver}
-use Rattle.answer_desk.specs.Shown.{SeesRefuted, SeesSpent, SeesIar}
+use Rattle.answer_evidence.specs.Shown.{SeesRefuted, SeesSpent, SeesIar}
 use Rattle.answer_desk.proofs.FollowingCoreLemmas.{brave_hard, iar_hard}
 use Rattle.answer_desk.proofs.FollowingDoneLemmas.{next_refuted, next_spent, next_core, next_model}
 use Rattle.answer_desk.proofs.FollowingSearchLemmas.{HasLearned, learned_one, next_learned, trying_on, try_learns, fresh_state, begun}

@@ -17,9 +17,9 @@ use Rattle.report_rules.specs.Inputs.{Input, selector_of}
 use Rattle.report_rules.specs.Tries.{Asked, asked, Tried, Ended}
 use Rattle.report_rules.specs.Evidence.{SomeCore, IsSettled}
 use Rattle.report_rules.specs.TryRules.{TryIsRight, turn_of}
-use Rattle.answer_desk.specs.declared.evidence.Evidence.{Evidence}
-use Rattle.answer_desk.specs.Desks.{IsFreeCause}
-use Rattle.answer_desk.specs.Shown.{is_undecided, verdict_in}
+use Rattle.answer_evidence.specs.declared.evidence.Evidence.{Evidence}
+use Rattle.answer_evidence.specs.FreeCauses.{IsFreeCause}
+use Rattle.answer_evidence.specs.Shown.{is_undecided, verdict_in}
 use Rattle.answer_desk.specs.Following.{Frame, own_selector, lines_on, IsBaseOf, IsFrame, AtBrave, AtIar, Shows, FollowsOpen, FollowsTry}
 use Rattle.answer_desk.specs.Following.{IsNextInside}
 use Rattle.answer_desk.proofs.FollowingVerdictLemmas.{present_one, left_open}

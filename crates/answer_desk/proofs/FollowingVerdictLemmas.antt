@@ -18,9 +18,9 @@ use Rattle.report_text.specs.declared.line.How.TheVariants as how
 use Rattle.report_rules.specs.Inputs.{selector_of}
 use Rattle.report_rules.specs.Tries.{Asked, asked, Ended, NamesCore}
 use Rattle.report_rules.specs.Evidence.{SomeCore, Meets, IsShown, IsSettledAs, IsSettled, IsSpent, IsVerdict}
-use Rattle.answer_desk.specs.declared.evidence.Evidence.{Evidence}
-use Rattle.answer_desk.specs.Sets.{SomeWithin, EachMeets}
-use Rattle.answer_desk.specs.Shown.{is_brave_no, is_ar_yes, is_ar_no, all_true, is_yes, is_no, verdict_by, verdict_in, is_undecided}
+use Rattle.answer_evidence.specs.declared.evidence.Evidence.{Evidence}
+use Rattle.answer_evidence.specs.Sets.{SomeWithin, EachMeets}
+use Rattle.answer_evidence.specs.Shown.{is_brave_no, is_ar_yes, is_ar_no, all_true, is_yes, is_no, verdict_by, verdict_in, is_undecided}
 use Rattle.answer_desk.specs.Following.{Frame, own_selector, ShowsCores, ShowsTries, TriesHaveEnded, HasEnded, BraveIsOver, IsAtEnd}
 
 -- ---- literals and tests

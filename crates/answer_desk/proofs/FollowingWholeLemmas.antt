@@ -13,17 +13,19 @@ use Rattle.report_text.specs.declared.line.Line.{Line}
 use Rattle.report_text.specs.declared.line.Line.TheVariants as line
 use Rattle.report_text.specs.Reports.{AddsLine, StayTold}
 use Rattle.report_rules.specs.Live.{Learned}
-use Rattle.answer_desk.specs.declared.evidence.Evidence.{Evidence}
-use Rattle.answer_desk.specs.declared.opening.Opening.{Opening}
+use Rattle.answer_evidence.specs.declared.evidence.Evidence.{Evidence}
+use Rattle.answer_evidence.specs.declared.opening.Opening.{Opening}
 use Rattle.answer_desk.specs.declared.plan.Verdicts.{Verdicts}
 use Rattle.answer_desk.specs.declared.plan.ClassifyFault.{ClassifyFault}
 use Rattle.answer_desk.specs.declared.plan.ClassifyFault.TheVariants as fault
 use Rattle.answer_desk.specs.declared.work.Work.{Work}
-use Rattle.answer_desk.specs.Answering.{TellTruth, DecideOverAll, DecideByBudget, AnswersRight}
-use Rattle.answer_desk.specs.Desks.{DeskState, IsFreeCause, IsReady, IsSameDesk, MayAnswer, learned_in, total}
-use Rattle.answer_desk.specs.Loading.{IsRange, Loads}
+use Rattle.answer_desk.specs.Answering.{TellTruth, DecideOverAll, DecideByBudget, AnswersRight, SaysVerdicts}
+use Rattle.answer_desk.specs.Desks.{DeskState, IsReady, IsSameDesk, MayAnswer, learned_in, total}
+use Rattle.answer_evidence.specs.FreeCauses.{IsFreeCause}
+use Rattle.answer_desk.specs.Loading.{Loads}
+use Rattle.answer_evidence.specs.Ranges.{IsRange}
 use Rattle.answer_desk.specs.Openings.{IsOpen, IsSameOpening, IsTornAs}
-use Rattle.answer_desk.specs.Shown.{SaysVerdicts, ShowsNothing, answer_line}
+use Rattle.answer_evidence.specs.Shown.{ShowsNothing, answer_line}
 use Rattle.answer_desk.specs.Works.{desk_of}
 use Rattle.answer_desk.specs.Following.{Frame, frame_of, AtBrave, AtEnd, FollowsOpen, GoesOn, StopsAfter}
 use Rattle.answer_desk.specs.Frames.{ForEachFrame}
@@ -32,7 +34,7 @@ use Rattle.answer_desk.proofs.FollowingAnswerLemmas.{answer_true, answer_over_al
 use Rattle.answer_desk.proofs.FollowingAskLemmas.{frame_along}
 use Rattle.answer_desk.proofs.FollowingCallLemmas.{HasOpened, open_follows}
 use Rattle.answer_desk.proofs.FollowingEndLemmas.{desk_after, ready_again}
-use Rattle.answer_desk.proofs.SetLemmas.{IfOk-map}
+use Rattle.answer_evidence.proofs.SetLemmas.{IfOk-map}
 
 -- ---- counts
 

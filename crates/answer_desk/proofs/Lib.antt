@@ -20,12 +20,10 @@ pub mod FollowingVerdictLemmas
 pub mod FollowingWholeLemmas
 pub mod LiveLemmas
 pub mod LoadLemmas
-pub mod LoggingLemmas
 pub mod ModelLemmas
 pub mod OpenLemmas
-pub mod RangeLemmas
 pub mod ReadyLemmas
 pub mod RivalLemmas
-pub mod SetLemmas
+pub mod SearchLogLemmas
 pub mod SolverLemmas
 pub mod TryLemmas

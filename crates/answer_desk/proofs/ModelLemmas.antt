@@ -30,14 +30,14 @@ use Rattle.repair_clauses.specs.CauseClauses.{cause_clause}
 use Rattle.repair_clauses.proofs.LawLemmas.{base_wider, base_within, cause_is_excluded}
 use Rattle.repair_clauses.proofs.LiteralLemmas.{true_present, true_absent}
 use Rattle.report_laws.proofs.ListLemmas.{Contains-filter, filter-Contains}
-use Rattle.answer_desk.specs.declared.opening.Opening.{Opening}
-use Rattle.answer_desk.specs.declared.aim.Aim.{Aim}
-use Rattle.answer_desk.specs.declared.aim.Aim.TheVariants as aim
-use Rattle.answer_desk.specs.Aims.{IsCoreOver, IsOver, assumed_for}
+use Rattle.answer_evidence.specs.declared.opening.Opening.{Opening}
+use Rattle.answer_evidence.specs.declared.aim.Aim.{Aim}
+use Rattle.answer_evidence.specs.declared.aim.Aim.TheVariants as aim
+use Rattle.answer_evidence.specs.Aims.{IsCoreOver, IsOver, assumed_for}
 use Rattle.answer_desk.specs.Models.{HasModel}
 use Rattle.answer_desk.specs.Desks.{given_in}
 use Rattle.answer_desk.specs.Openings.{IsOpen}
-use Rattle.answer_desk.specs.Sets.{EachMeets}
+use Rattle.answer_evidence.specs.Sets.{EachMeets}
 use Rattle.answer_desk.proofs.OpenLemmas.{given_live, facts_taken, in_facts, reached_closed, reached_closed_graph, reached_known}
 use Rattle.answer_desk.proofs.OpenLemmas.{cause_inside, cause_clause_inside}
 

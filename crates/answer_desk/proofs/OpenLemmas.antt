@@ -26,13 +26,14 @@ use Rattle.report_laws.specs.Bounds.{AreReached}
 use Rattle.report_laws.specs.OpenAnswers.{IsAmong}
 use Rattle.report_rules.specs.Clauses.{IsCauseClause}
 use Rattle.report_rules.specs.Live.{Learned}
-use Rattle.answer_desk.specs.declared.evidence.Evidence.{Evidence}
-use Rattle.answer_desk.specs.declared.opening.Opening.{Opening}
-use Rattle.answer_desk.specs.Desks.{IsFreeCause, given_in, learned_in}
+use Rattle.answer_evidence.specs.declared.evidence.Evidence.{Evidence}
+use Rattle.answer_evidence.specs.declared.opening.Opening.{Opening}
+use Rattle.answer_desk.specs.Desks.{given_in, learned_in}
+use Rattle.answer_evidence.specs.FreeCauses.{IsFreeCause}
 use Rattle.answer_desk.specs.Loading.{Loads, FitIn, AreLoadable}
 use Rattle.answer_desk.specs.Openings.{IsOpen, IsSameOpening, KeepsApart}
-use Rattle.answer_desk.specs.Reached.{IsScopeWith}
-use Rattle.answer_desk.specs.Shown.{ShowsNothing}
+use Rattle.answer_evidence.specs.Reached.{IsScopeWith}
+use Rattle.answer_evidence.specs.Shown.{ShowsNothing}
 use Rattle.answer_desk.proofs.LiveLemmas.{live_cases, live_from}
 use Rattle.answer_desk.proofs.LoadLemmas.{cause_clauses_listed}
 

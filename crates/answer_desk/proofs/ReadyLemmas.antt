@@ -26,7 +26,8 @@ use Rattle.report_laws.proofs.ScopeLemmas.{not_false}
 use Rattle.report_rules.specs.Live.{Learned}
 use Rattle.answer_desk.specs.declared.plan.Plan.{Plan}
 use Rattle.answer_desk.specs.Desks.{DeskState, IsReady, MayOpen, given_in, learned_in}
-use Rattle.answer_desk.specs.Loading.{IsRange, Loads}
+use Rattle.answer_desk.specs.Loading.{Loads}
+use Rattle.answer_evidence.specs.Ranges.{IsRange}
 use Rattle.answer_desk.specs.Openings.{KeepsApart}
 use Rattle.answer_desk.proofs.OpenLemmas.{live_parts}
 

@@ -12,7 +12,7 @@ use Rattle.cdcl_core.specs.Solving.{Learns, cleared}
 use Rattle.cdcl_core.specs.declared.outcome.Budget.{Budget}
 use Rattle.answer_desk.specs.Desks.{given_in}
 use Rattle.answer_desk.specs.Openings.{Spends, IsOpen}
-use Rattle.answer_desk.specs.declared.opening.Opening.{Opening}
+use Rattle.answer_evidence.specs.declared.opening.Opening.{Opening}
 use Rattle.answer_desk.proofs.LiveLemmas.{given_in-append}
 use Rattle.cq_terms.specs.Conflicts.{ConflictGraph}
 use Rattle.priority_graph.specs.Priority.{Priority}

@@ -11,18 +11,17 @@ use Rattle.report_text.specs.declared.line.Line.{Line}
 use Rattle.report_text.specs.Reports.{AddsLine, StayTold}
 use Rattle.answer_desk.specs.declared.plan.ClassifyFault.{ClassifyFault}
 use Rattle.answer_desk.specs.declared.plan.ClassifyFault.TheVariants as fault
-use Rattle.answer_desk.specs.Logging.{learn_line, AddsLearns}
+use Rattle.answer_evidence.specs.Logging.{learn_line, AddsLearns}
 use Rattle.answer_desk.specs.Openings.{IsTornAs}
-use Rattle.answer_desk.specs.declared.evidence.Evidence.{Evidence}
+use Rattle.answer_evidence.specs.declared.evidence.Evidence.{Evidence}
 use Rattle.report_text.specs.declared.line.How.{How}
 use Rattle.answer_desk.specs.Trying.{Gets, torn_part, BreaksSearch, Try, Search, Learnt, Tries, EndsAs, BreaksAs, BreaksOff, lines_of, try_line}
 use Rattle.answer_desk.specs.Trying.{assumed_in, core_lines, IsCoreOf, IsPartOf, Refuted, Spent}
 use Rattle.cdcl_core.specs.declared.outcome.Outcome.{Outcome}
 use Rattle.cdcl_core.specs.declared.outcome.Outcome.TheVariants as outcome
-use Rattle.answer_desk.specs.Aims.{IsHard}
-use Rattle.answer_desk.specs.Aims.{asked_for, IsCoreOver, Shows}
+use Rattle.answer_evidence.specs.Aims.{IsHard, asked_for, IsCoreOver, Shows}
 use Rattle.explainer.specs.declared.cores.Core.{Core}
-use Rattle.answer_desk.specs.Shown.{SeesCore}
+use Rattle.answer_evidence.specs.Shown.{SeesCore}
 use Rattle.report_text.specs.declared.line.How.TheVariants as how
 use Rattle.report_text.specs.declared.line.Line.TheVariants as line
 use Rattle.report_text.specs.declared.line.Question.{Question}

@@ -9,16 +9,25 @@ use Rattle.cq_terms.specs.Knowledge.{Knowledge}
 use Rattle.cq_meaning.specs.Repairs.{IsBrave, IsAr, IsIar}
 use Rattle.report_text.specs.declared.line.Line.{Line}
 use Rattle.report_text.specs.declared.line.Line.TheVariants as line
+use Rattle.report_text.specs.declared.line.Question.TheVariants as question
 use Rattle.report_rules.specs.Inputs.{Input}
 use Rattle.report_rules.specs.Accepted.{Right}
 use Rattle.report_rules.specs.Rules.{AskIsRight}
 use Rattle.report_laws.specs.Readings.{IsTrueVerdict, IsDecided}
 use Rattle.report_laws.specs.Bounds.{IsAtLeastBound}
 use Rattle.report_laws.specs.Summaries.{any_open}
+use Rattle.answer_evidence.specs.declared.evidence.Evidence.{Evidence}
+use Rattle.answer_evidence.specs.Shown.{verdict_in}
 use Rattle.answer_desk.specs.declared.plan.Verdicts.{Verdicts}
 use Rattle.answer_desk.specs.declared.plan.ClassifyFault.{ClassifyFault}
 use Rattle.answer_desk.specs.declared.plan.ClassifyFault.TheVariants as fault
 use Rattle.answer_desk.specs.Desks.{DeskState, Agrees, IsInPlace}
+
+-- the verdicts are those that the evidence gives
+pub record SaysVerdicts (e : Evidence) (v : Verdicts) : Type 0 where
+  pub brave : v.brave ≡ verdict_in e question.Brave
+  pub ar : v.ar ≡ verdict_in e question.Ar
+  pub iar : v.iar ≡ verdict_in e question.Iar
 
 -- each of the verdicts is true of the tuple, where it is yes or no
 pub record AreTrueVerdicts (kb : Knowledge) (repairs : Repairs) (q : Query) (tuple : List ℕ) (v : Verdicts) : Type 0 where

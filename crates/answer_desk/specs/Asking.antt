@@ -2,7 +2,7 @@
 use Rattle.std.specs.Prelude.{◌≡◌, ◌<◌, ℕ, List, [], false, length, slice_index_or, Option}
 use Rattle.cdcl_core.specs.State.{State}
 use Rattle.report_text.specs.declared.line.Line.{Line}
-use Rattle.answer_desk.specs.declared.evidence.Evidence.{Evidence}
+use Rattle.answer_evidence.specs.declared.evidence.Evidence.{Evidence}
 use Rattle.answer_desk.specs.Following.{Frame, AtIar, GoesOn, IarIsOver}
 use Rattle.answer_desk.specs.PlacesOver.{PlaceIsOver, PlacesStayOver}
 

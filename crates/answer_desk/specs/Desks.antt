@@ -1,13 +1,11 @@
 -- What contracts see of a desk, and when a report agrees with it.
 use Rattle.std.specs.Prelude.{◌≡◌, ◌<◌, ◌≤◌, ◌+◌, ◌*◌, ◌^◌, ◌↔◌, ℕ, zero, suc, List, [], ◌∷◌, Bool, false, Option, Some, None, All, length, Contains}
 use Rattle.cq_terms.specs.Conflicts.{ConflictGraph}
-use Rattle.cq_terms.specs.Lists.{IsAscending}
 use Rattle.cq_terms.specs.Query.{Query}
 use Rattle.cq_terms.specs.Knowledge.{Knowledge}
 use Rattle.cq_meaning.specs.Candidates.{Every, AreCauses}
 use Rattle.cq_meaning.specs.Conflicts.{FactsEntail}
 use Rattle.priority_graph.specs.Priority.{Priority, IsOver}
-use Rattle.priority_graph.specs.Cores.{IsFree}
 use Rattle.priority_graph.specs.Inputs.{IsPriorityOf}
 use Rattle.repair_clauses.specs.BaseClauses.{AllFacts, IsBaseClause}
 use Rattle.cdcl_core.specs.State as solver
@@ -23,6 +21,7 @@ use Rattle.report_rules.specs.Live.{Learned}
 use Rattle.report_laws.specs.OpenAnswers.{HoldInChosen, Start, IsAmong, Tells}
 use Rattle.report_laws.specs.OverPriority.{FitsMode}
 use Rattle.report_laws.specs.Scopes.{AreApart}
+use Rattle.answer_evidence.specs.FreeCauses.{IsFreeCause}
 use Rattle.answer_desk.specs.declared.plan.Plan.{Plan}
 
 -- a desk: what it was made with; the learned clauses that live, beside the base clauses; how many answers, learned clauses and cores there
@@ -74,13 +73,6 @@ start_at desk = record {
   clauses = desk.clauses;
   cores = desk.cores;
 }
-
--- a cause over a priority: ascending facts, at least one, none of which is self-inconsistent and no two of which conflict
-pub record IsFreeCause (p : Priority) (cause : List ℕ) : Type 0 where
-  pub some : 0 < length cause
-  pub ascending : IsAscending cause
-  pub known : All (λ i. i < p.facts) cause
-  pub free : IsFree p (Contains cause)
 
 -- how many facts the lists have together
 abbrev pub total : List (List ℕ) → ℕ

@@ -28,11 +28,12 @@ use Rattle.report_laws.specs.OverPriority.{FitsMode}
 use Rattle.report_laws.specs.Scopes.{AreApart, KeepsScope}
 use Rattle.report_laws.specs.Bounds.{AreReached}
 use Rattle.report_laws.specs.DeskAnswers.{ask_line, IsAnsweredOver}
-use Rattle.answer_desk.specs.declared.evidence.Evidence.{Evidence}
-use Rattle.answer_desk.specs.Desks.{DeskState, start_at, IsFreeCause, given_in, learned_in}
-use Rattle.answer_desk.specs.Logging.{learn_line}
-use Rattle.answer_desk.specs.Sets.{SomeWithin, EachMeets}
-use Rattle.answer_desk.specs.Shown.{is_undecided, verdict_in}
+use Rattle.answer_evidence.specs.declared.evidence.Evidence.{Evidence}
+use Rattle.answer_desk.specs.Desks.{DeskState, start_at, given_in, learned_in}
+use Rattle.answer_evidence.specs.FreeCauses.{IsFreeCause}
+use Rattle.answer_evidence.specs.Logging.{learn_line}
+use Rattle.answer_evidence.specs.Sets.{SomeWithin, EachMeets}
+use Rattle.answer_evidence.specs.Shown.{is_undecided, verdict_in}
 
 -- ---- what stays
 

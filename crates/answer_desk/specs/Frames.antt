@@ -3,7 +3,7 @@ use Rattle.std.specs.Prelude.{ℕ, List}
 use Rattle.cq_terms.specs.Conflicts.{ConflictGraph}
 use Rattle.priority_graph.specs.Priority.{Priority}
 use Rattle.report_text.specs.declared.line.Line.{Line}
-use Rattle.answer_desk.specs.declared.opening.Opening.{Opening}
+use Rattle.answer_evidence.specs.declared.opening.Opening.{Opening}
 use Rattle.answer_desk.specs.Following.{Frame, IsFrameFor}
 
 -- so it is for each frame of the opening, and any lines of its answer so far

@@ -1,4 +1,3 @@
-pub mod Aims
 pub mod Answering
 pub mod Asking
 pub mod Desks
@@ -6,13 +5,8 @@ pub mod Faults
 pub mod Following
 pub mod Frames
 pub mod Loading
-pub mod Logging
-pub mod LoggingLaws
 pub mod Models
 pub mod Openings
 pub mod PlacesOver
-pub mod Reached
-pub mod Sets
-pub mod Shown
 pub mod Trying
 pub mod Works

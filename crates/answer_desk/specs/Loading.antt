@@ -1,5 +1,5 @@
--- Clauses that are given to a solver one by one, and ranges of numbers.
-use Rattle.std.specs.Prelude.{◌≡◌, ◌≢◌, ◌<◌, ◌≤◌, ◌↔◌, ◌⊎◌, ℕ, List, [], All, Contains}
+-- Clauses that are given to a solver one by one.
+use Rattle.std.specs.Prelude.{◌≡◌, ◌≢◌, ◌<◌, ◌↔◌, ◌⊎◌, ℕ, List, [], All, Contains}
 use Rattle.clause_meaning.specs.Literals.{AreBelow, HaveDistinctVariables}
 use Rattle.cq_terms.specs.Lists.{IsAscending}
 use Rattle.cdcl_core.specs.State as solver
@@ -21,11 +21,6 @@ pub record Loads (clauses : List (List ℕ)) (old new : solver.State) : Type 0 w
   pub next : new.next ≡ old.next
   pub learned : learned_in new.live ≡ learned_in old.live
   pub given : (clause : List ℕ) → Contains (given_in new.live) clause ↔ (Contains (given_in old.live) clause ⊎ Contains clauses clause)
-
--- the numbers from the first on, below the bound, ascending
-pub record IsRange (first bound : ℕ) (numbers : List ℕ) : Type 0 where
-  pub ascending : IsAscending numbers
-  pub exact : (n : ℕ) → Contains numbers n ↔ ((first ≤ n) × (n < bound))
 
 -- the numbers of each of the lists are below the bound
 abbrev pub FitIn : ℕ → List (List ℕ) → Type 0

@@ -17,9 +17,10 @@ use Rattle.cdcl_core.specs.State as solver
 use Rattle.cdcl_core.specs.State.{LiveIn}
 use Rattle.cdcl_core.specs.declared.outcome.Budget.{Budget}
 use Rattle.report_rules.specs.Clauses.{IsCauseClause}
-use Rattle.answer_desk.specs.declared.opening.Opening.{Opening}
-use Rattle.answer_desk.specs.Desks.{IsFreeCause, given_in}
-use Rattle.answer_desk.specs.Reached.{IsScopeWith}
+use Rattle.answer_evidence.specs.declared.opening.Opening.{Opening}
+use Rattle.answer_desk.specs.Desks.{given_in}
+use Rattle.answer_evidence.specs.FreeCauses.{IsFreeCause}
+use Rattle.answer_evidence.specs.Reached.{IsScopeWith}
 
 -- the clauses of the solver are the base clauses, the clauses of the causes, and learned ones; none of them crosses the border of the scope
 pub record IsOpen (g : ConflictGraph) (p : Priority) (state : solver.State) (opening : Opening) (causes : List (List ℕ)) : Type 0 where

@@ -3,8 +3,8 @@ use Rattle.std.specs.Prelude.{◌≡◌, ◌<◌, ◌⊎◌, ℕ, List, [], Cont
 use Rattle.report_text.specs.declared.line.How.{How}
 use Rattle.report_text.specs.declared.line.How.TheVariants as how
 use Rattle.report_text.specs.declared.line.Question.TheVariants as question
-use Rattle.answer_desk.specs.declared.evidence.Evidence.{Evidence}
-use Rattle.answer_desk.specs.Shown.{is_undecided, verdict_in}
+use Rattle.answer_evidence.specs.declared.evidence.Evidence.{Evidence}
+use Rattle.answer_evidence.specs.Shown.{is_undecided, verdict_in}
 
 -- IAR is settled, a core drops a fact of the cause at the place, or the try of one of its facts was spent
 abbrev pub PlaceIsOver : List (List ℕ) → Evidence → ℕ → Type 0

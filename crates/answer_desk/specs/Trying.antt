@@ -11,12 +11,12 @@ use Rattle.report_text.specs.declared.line.Line.{Line}
 use Rattle.report_text.specs.declared.line.Line.TheVariants as line
 use Rattle.report_text.specs.declared.line.How.{How}
 use Rattle.report_text.specs.declared.line.How.TheVariants as how
-use Rattle.answer_desk.specs.Aims.{asked_for, assumed_for, Shows, IsHard, IsCoreOver}
-use Rattle.answer_desk.specs.Logging.{learn_line}
-use Rattle.answer_desk.specs.Shown.{SeesCore}
-use Rattle.answer_desk.specs.declared.aim.Aim.{Aim}
-use Rattle.answer_desk.specs.declared.evidence.Evidence.{Evidence}
-use Rattle.answer_desk.specs.declared.opening.Opening.{Opening}
+use Rattle.answer_evidence.specs.Aims.{asked_for, assumed_for, Shows, IsHard, IsCoreOver}
+use Rattle.answer_evidence.specs.Logging.{learn_line}
+use Rattle.answer_evidence.specs.Shown.{SeesCore}
+use Rattle.answer_evidence.specs.declared.aim.Aim.{Aim}
+use Rattle.answer_evidence.specs.declared.evidence.Evidence.{Evidence}
+use Rattle.answer_evidence.specs.declared.opening.Opening.{Opening}
 
 -- the torn line, where there is one, as lines
 abbrev pub torn_part : Option Line → List Line

@@ -3,14 +3,14 @@
 ghost use Rattle.std.specs.Prelude.{◌≡◌, ◌<◌, ◌≤◌, ◌+◌, None, true, false, IfOk, OnOk, OnErr};
 ghost use Rattle.cq_io.specs.Faults.{TellsFault};
 ghost use Rattle.answer_desk.specs.Answering.{AnswersRight, DecideByBudget, DecideOverAll, TellTruth, is_report_fault};
-ghost use Rattle.answer_desk.specs.Loading.{IsRange};
 ghost use Rattle.answer_desk.specs.Desks.{MayOpen, MayAnswer, IsSameDesk, new_desk};
 
 use crate::work::{Work, add_each};
 use crate::{ClassifyFault, Plan, Verdicts};
+use answer_evidence::up_to;
 use cause_finder::Candidate;
 use cdcl_core::Solver;
-use cq_terms::{Conflicts, Ids, NoMemory, Texts};
+use cq_terms::{Conflicts, NoMemory, Texts};
 use priority_graph::Better;
 use repair_encoder::base_clauses;
 use report_text::Report;
@@ -126,15 +126,4 @@ impl<'a> Desk<'a> {
         self.failed = false;
         Ok(verdicts)
     }
-}
-
-/// The numbers below the bound, ascending.
-fn up_to(alloc: Global, bound: u32) -> Result<Ids, NoMemory>
-    ensures exact { IfOk result (IsRange 0 bound) }
-{
-    let mut numbers = Ids::new(alloc);
-    for number in 0..bound {
-        numbers.push(number)?;
-    }
-    Ok(numbers)
 }

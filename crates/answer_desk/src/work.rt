@@ -8,23 +8,25 @@ ghost use Rattle.repair_clauses.specs.CauseClauses as clauses;
 ghost use Rattle.report_text.specs.declared.line.Line.TheVariants as line;
 ghost use Rattle.report_text.specs.Reports.{AddsLine, StayTold};
 ghost use Rattle.cdcl_core.specs.State.{without_variable};
-ghost use Rattle.answer_desk.specs.Answering.{AnswersRight, DecideByBudget, DecideOverAll, TellTruth, is_report_fault};
-ghost use Rattle.answer_desk.specs.Desks.{IsFreeCause, IsReady, MayAnswer, given_in};
-ghost use Rattle.answer_desk.specs.Loading.{AreAddable, AreLoadable, FitIn, Loads, IsRange};
+ghost use Rattle.answer_desk.specs.Answering.{AnswersRight, DecideByBudget, DecideOverAll, TellTruth, is_report_fault, SaysVerdicts};
+ghost use Rattle.answer_desk.specs.Desks.{IsReady, MayAnswer, given_in};
+ghost use Rattle.answer_evidence.specs.FreeCauses.{IsFreeCause};
+ghost use Rattle.answer_desk.specs.Loading.{AreAddable, AreLoadable, FitIn, Loads};
+ghost use Rattle.answer_evidence.specs.Ranges.{IsRange};
 ghost use Rattle.answer_desk.specs.Openings.{IsOpen, IsTornAs, KeepsApart};
-ghost use Rattle.answer_desk.specs.Shown.{ShowsNothing, SaysVerdicts, answer_line};
+ghost use Rattle.answer_evidence.specs.Shown.{ShowsNothing, answer_line, verdict_in};
 ghost use Rattle.answer_desk.specs.Works.{desk_of};
 
-use crate::copies::{are_utf8, copied_lists, copied_texts, fit, fit_long};
-use crate::evidence::Evidence;
-use crate::opening::{Opening, scope_of};
 use crate::{ClassifyFault, Plan, Verdicts};
+use answer_evidence::{
+    Evidence, Opening, are_utf8, copied_lists, copied_texts, fit, fit_long, numbers_from, scope_of,
+};
 use cause_finder::Candidate;
 use cdcl_core::Solver;
 use cq_terms::{Conflicts, Ids, Longs, NoMemory, Texts};
 use priority_graph::Better;
 use repair_encoder::cause_clause;
-use report_text::{Line, Report};
+use report_text::{Line, Question, Report};
 use std::alloc::Global;
 
 mod cores;
@@ -168,12 +170,25 @@ impl Work<'_> {
         ensures none_torn { OnOk result (L.torn report.new ≡ None) }
         ensures same_target { L.target report.new ≡ L.target report.old }
     {
-        let verdicts = opening.evidence.verdicts();
+        let verdicts = verdicts_of(&opening.evidence);
         let cores = numbers_from(self.alloc, opening.first_core, self.cores)?;
         tell_answer(self.alloc, &verdicts, cores, candidate, names, report)?;
         self.solver.close(opening.selector);
         self.answers += 1;
         Ok(verdicts)
+    }
+}
+
+/// What the evidence says of the three questions.
+fn verdicts_of(evidence: &Evidence) -> Verdicts
+    ensures brave { result.brave ≡ verdict_in evidence.now Question.Brave }
+    ensures ar { result.ar ≡ verdict_in evidence.now Question.Ar }
+    ensures iar { result.iar ≡ verdict_in evidence.now Question.Iar }
+{
+    Verdicts {
+        brave: evidence.verdict(Question::Brave),
+        ar: evidence.verdict(Question::Ar),
+        iar: evidence.verdict(Question::Iar),
     }
 }
 
@@ -241,19 +256,6 @@ fn tell_answer<L: Report>(
     };
     report.line(&line)?;
     Ok(())
-}
-
-/// The numbers from the first one on, below the bound.
-fn numbers_from(alloc: Global, first: u64, bound: u64) -> Result<Longs, NoMemory>
-    requires ordered { first ≤ bound }
-
-    ensures exact { IfOk result (IsRange first bound) }
-{
-    let mut numbers = Longs::new(alloc);
-    for number in first..bound {
-        numbers.push(number)?;
-    }
-    Ok(numbers)
 }
 
 /// Adds each of the clauses.

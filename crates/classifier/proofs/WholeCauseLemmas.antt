@@ -25,7 +25,8 @@ use Rattle.report_laws.proofs.BaseClauseLemmas.{means}
 use Rattle.report_laws.proofs.BoundLemmas.{graph_tells, bound_exists}
 use Rattle.report_laws.proofs.CauseLemmas.{listed_cause, listed_within}
 use Rattle.answer_desk.specs.declared.plan.Plan.{Plan}
-use Rattle.answer_desk.specs.Desks.{IsFreeCause, MayOpen, total}
+use Rattle.answer_desk.specs.Desks.{MayOpen, total}
+use Rattle.answer_evidence.specs.FreeCauses.{IsFreeCause}
 use Rattle.classifier.specs.WholeInputs.{AreOfInput, AreOfQuery, AreFew, HaveTexts}
 use Rattle.classifier.specs.WholeReports.{MayBeAnswered, MayAnswerAll, first_desk, tuples_of}
 use Rattle.classifier.proofs.WholeCountLemmas.{AreInPlace}

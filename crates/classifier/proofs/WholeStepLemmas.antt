@@ -24,7 +24,8 @@ use Rattle.answer_desk.specs.declared.plan.Plan.{Plan}
 use Rattle.classifier.specs.declared.summary.Summary.{Summary}
 use Rattle.answer_desk.specs.declared.plan.Verdicts.{Verdicts}
 use Rattle.answer_desk.specs.Answering.{TellTruth, DecideOverAll, DecideByBudget, AnswersRight, AgreesOnAnswer}
-use Rattle.answer_desk.specs.Desks.{DeskState, IsSameDesk, IsFreeCause, MayAnswer}
+use Rattle.answer_desk.specs.Desks.{DeskState, IsSameDesk, MayAnswer}
+use Rattle.answer_evidence.specs.FreeCauses.{IsFreeCause}
 use Rattle.classifier.specs.WholeReports.{MayBeAnswered, MayAnswerAll, no_summary, with_verdicts, said_of, IsSaidOf, IsSummaryOver, tuples_of}
 use Rattle.classifier.specs.WholeReports.{AnswersSoFar, AnswersOne, AnswersNext, AnswersAll, EndsReport, TellsReport, ReportsWhole, end_line}
 use Rattle.classifier.specs.WholeWriting.{AddsLines, StopsAmong, AreRightInTurn, IsRightSoFar}

@@ -33,7 +33,8 @@ use Rattle.answer_desk.specs.declared.plan.Plan.{Plan}
 use Rattle.classifier.specs.declared.summary.Summary.{Summary}
 use Rattle.answer_desk.specs.declared.plan.Verdicts.{Verdicts}
 use Rattle.answer_desk.specs.Answering.{AreTrueVerdicts, AreOneAnswer, WritesRight, has_undecided}
-use Rattle.answer_desk.specs.Desks.{DeskState, Agrees, IsFreeCause, total}
+use Rattle.answer_desk.specs.Desks.{DeskState, Agrees, total}
+use Rattle.answer_evidence.specs.FreeCauses.{IsFreeCause}
 use Rattle.classifier.specs.WholeWriting.{IsRightSoFar}
 
 -- ---- counts

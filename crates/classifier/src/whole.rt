@@ -7,7 +7,7 @@ ghost use Rattle.cq_io.specs.Faults.{TellsFault};
 ghost use Rattle.cq_terms.specs.Query.{Query};
 ghost use Rattle.cq_terms.specs.declared.facts.Repairs.TheVariants as mode;
 ghost use Rattle.cq_steps.specs.Derivation.{IsDerivation};
-ghost use Rattle.report_text.specs.Atoms.{IsTermInRange, IsAtomInRange};
+ghost use Rattle.report_fields.specs.Atoms.{IsTermInRange, IsAtomInRange};
 ghost use Rattle.report_text.specs.CqLine.{IsMoveInRange, IsOriginInRange};
 ghost use Rattle.report_text.specs.Lines.{IsWellFormed};
 ghost use Rattle.answer_desk.specs.Answering.{DecideByBudget, DecideOverAll, TellTruth, is_report_fault};

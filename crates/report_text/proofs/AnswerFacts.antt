@@ -8,12 +8,12 @@ use Rattle.report_text.specs.declared.line.Line.{Line}
 use Rattle.report_text.specs.declared.line.Line.TheVariants as line
 use Rattle.report_text.specs.declared.line.Verdict.{Verdict}
 use Rattle.report_text.specs.declared.line.Verdict.TheVariants.{Yes, No, Undecided}
-use Rattle.report_text.specs.Fields.{longs_at, ids_at, texts_at}
+use Rattle.report_fields.specs.Fields.{longs_at, ids_at, texts_at}
 use Rattle.report_text.specs.AnswerLine.{IsWellFormedAnswer, verdict_word, verdict_of, verdict_at, answer_data, answer_at}
 use Rattle.report_text.specs.Lines.{IsWellFormed}
-use Rattle.report_text.proofs.Plain.{IsPlain}
-use Rattle.report_text.proofs.FieldFacts.{items_depth-numbers, items_depth-texts, ArePlain-longs, ArePlain-ids, ArePlain-texts, each_of-longs, each_of-ids}
-use Rattle.report_text.proofs.FieldFacts.{each_of-texts, All-longs_at, All-ids_at, All-texts_at}
+use Rattle.report_fields.proofs.Plain.{IsPlain}
+use Rattle.report_fields.proofs.FieldFacts.{items_depth-numbers, items_depth-texts, ArePlain-longs, ArePlain-ids, ArePlain-texts, each_of-longs, each_of-ids}
+use Rattle.report_fields.proofs.FieldFacts.{each_of-texts, All-longs_at, All-ids_at, All-texts_at}
 
 -- a verdict's word is UTF-8
 IsUtf8-verdict_word : (verdict : Verdict) → IsUtf8 (verdict_word verdict)

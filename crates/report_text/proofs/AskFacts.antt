@@ -6,12 +6,12 @@ use Rattle.serde_json.specs.Data.{Data, depth}
 use Rattle.serde_json.specs.Read.{max_depth}
 use Rattle.report_text.specs.declared.line.Line.{Line}
 use Rattle.report_text.specs.declared.line.Line.TheVariants as line
-use Rattle.report_text.specs.Fields.{id_at, ids_at, id_lists_at}
+use Rattle.report_fields.specs.Fields.{id_at, ids_at, id_lists_at}
 use Rattle.report_text.specs.AskLine.{IsWellFormedAsk, ask_data, ask_at}
 use Rattle.report_text.specs.Lines.{IsWellFormed}
-use Rattle.report_text.proofs.Plain.{IsPlain}
-use Rattle.report_text.proofs.FieldFacts.{items_depth-numbers, items_depth-lists, ArePlain-ids, ArePlain-lists, if_below-lt, each_of-ids, each_of-lists}
-use Rattle.report_text.proofs.FieldFacts.{below-id_at, All-ids_at, All-id_lists_at}
+use Rattle.report_fields.proofs.Plain.{IsPlain}
+use Rattle.report_fields.proofs.FieldFacts.{items_depth-numbers, items_depth-lists, ArePlain-ids, ArePlain-lists, if_below-lt, each_of-ids, each_of-lists}
+use Rattle.report_fields.proofs.FieldFacts.{below-id_at, All-ids_at, All-id_lists_at}
 
 -- a well-formed candidate's JSON is plain
 pub IsPlain-ask_data : (candidate : ℕ) (tuple : List ℕ) (causes : List (List ℕ)) (members : List ℕ) → IsWellFormedAsk candidate tuple causes members

@@ -8,11 +8,11 @@ use Rattle.serde_json.specs.Data.{Data, depth}
 use Rattle.serde_json.specs.Read.{max_depth}
 use Rattle.report_text.specs.declared.line.Line.{Line}
 use Rattle.report_text.specs.declared.line.Line.TheVariants as line
-use Rattle.report_text.specs.Fields.{id_at, ids_at}
+use Rattle.report_fields.specs.Fields.{id_at, ids_at}
 use Rattle.report_text.specs.ConflictLine.{IsWellFormedConflict, is_one_or_two, conflict_data, conflict_at}
 use Rattle.report_text.specs.Lines.{IsWellFormed}
-use Rattle.report_text.proofs.Plain.{IsPlain}
-use Rattle.report_text.proofs.FieldFacts.{items_depth-numbers, ArePlain-ids, if_below-lt, each_of-ids, below-id_at, All-ids_at}
+use Rattle.report_fields.proofs.Plain.{IsPlain}
+use Rattle.report_fields.proofs.FieldFacts.{items_depth-numbers, ArePlain-ids, if_below-lt, each_of-ids, below-id_at, All-ids_at}
 
 -- one or two passes
 is_one_or_two-true : (count : ℕ) → (count ≡ 1) ⊎ (count ≡ 2) → is_one_or_two count ≡ true

@@ -6,11 +6,11 @@ use Rattle.serde_json.specs.Data.{Data, depth}
 use Rattle.serde_json.specs.Read.{max_depth}
 use Rattle.report_text.specs.declared.line.Line.{Line}
 use Rattle.report_text.specs.declared.line.Line.TheVariants as line
-use Rattle.report_text.specs.Fields.{long_at, ids_at}
+use Rattle.report_fields.specs.Fields.{long_at, ids_at}
 use Rattle.report_text.specs.CoreLine.{IsWellFormedCore, core_data, core_at}
 use Rattle.report_text.specs.Lines.{IsWellFormed}
-use Rattle.report_text.proofs.Plain.{IsPlain}
-use Rattle.report_text.proofs.FieldFacts.{items_depth-numbers, ArePlain-ids, if_below-lt, each_of-ids, below-long_at, All-ids_at}
+use Rattle.report_fields.proofs.Plain.{IsPlain}
+use Rattle.report_fields.proofs.FieldFacts.{items_depth-numbers, ArePlain-ids, if_below-lt, each_of-ids, below-long_at, All-ids_at}
 
 -- a well-formed core's JSON is plain
 pub IsPlain-core_data : (number : ℕ) (kept dropped : List ℕ) → IsWellFormedCore number kept dropped → IsPlain (core_data number kept dropped)

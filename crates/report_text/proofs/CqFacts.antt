@@ -14,15 +14,15 @@ use Rattle.report_text.specs.declared.line.Line.{Line}
 use Rattle.report_text.specs.declared.line.Line.TheVariants as line
 use Rattle.report_text.specs.declared.line.Origin.{Origin}
 use Rattle.report_text.specs.declared.line.Origin.TheVariants as origin
-use Rattle.report_text.specs.Fields.{is_null, id_of, id_in, word_in}
-use Rattle.report_text.specs.Atoms.{IsTermInRange, IsAtomInRange, terms_at, atoms_at}
+use Rattle.report_fields.specs.Fields.{is_null, id_of, id_in, word_in}
+use Rattle.report_fields.specs.Atoms.{IsTermInRange, IsAtomInRange, terms_at, atoms_at}
 use Rattle.report_text.specs.CqLine.{IsOriginInRange, IsMoveInRange, IsWellFormedCq, origin_data, move_data, move_data_of, parent_data, cq_data, origin_of}
 use Rattle.report_text.specs.CqLine.{origin_at, axiom_move_of, reduce_move_of, move_of_kind, move_of, step_of, step_at, query_at, cq_at}
 use Rattle.report_text.specs.Lines.{IsWellFormed}
-use Rattle.report_text.proofs.Plain.{IsPlain}
-use Rattle.report_text.proofs.FieldFacts.{if_below-lt, below-id_of, below-id_in}
-use Rattle.report_text.proofs.AtomFacts.{items_depth-terms, items_depth-atoms, ArePlain-terms, ArePlain-atoms, each_of-terms, each_of-atoms, All-terms_at}
-use Rattle.report_text.proofs.AtomFacts.{All-atoms_at}
+use Rattle.report_fields.proofs.Plain.{IsPlain}
+use Rattle.report_fields.proofs.FieldFacts.{if_below-lt, below-id_of, below-id_in}
+use Rattle.report_fields.proofs.AtomFacts.{items_depth-terms, items_depth-atoms, ArePlain-terms, ArePlain-atoms, each_of-terms, each_of-atoms, All-terms_at}
+use Rattle.report_fields.proofs.AtomFacts.{All-atoms_at}
 use Rattle.cq_terms.proofs.SafeFacts.{if_safe-query, IsSafe-if_safe}
 
 -- the numbers of the step are in their range

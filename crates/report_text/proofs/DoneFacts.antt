@@ -9,11 +9,11 @@ use Rattle.report_text.specs.declared.line.Line.{Line}
 use Rattle.report_text.specs.declared.line.Line.TheVariants as line
 use Rattle.report_text.specs.declared.line.How.{How}
 use Rattle.report_text.specs.declared.line.How.TheVariants.{Model, Refuted, Spent}
-use Rattle.report_text.specs.Fields.{long_or_null_at}
+use Rattle.report_fields.specs.Fields.{long_or_null_at}
 use Rattle.report_text.specs.DoneLine.{IsWellFormedDone, how_word, how_of, how_at, has_its_core, done_data, done_at}
 use Rattle.report_text.specs.Lines.{IsWellFormed}
-use Rattle.report_text.proofs.Plain.{IsPlain}
-use Rattle.report_text.proofs.FieldFacts.{depth-long_or_null, IsPlain-long_or_null, long_or_null-data, below-long_or_null_at}
+use Rattle.report_fields.proofs.Plain.{IsPlain}
+use Rattle.report_fields.proofs.FieldFacts.{depth-long_or_null, IsPlain-long_or_null, long_or_null-data, below-long_or_null_at}
 
 -- the word for how a try ended is UTF-8
 IsUtf8-how_word : (how : How) → IsUtf8 (how_word how)

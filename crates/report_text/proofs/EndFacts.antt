@@ -6,11 +6,11 @@ use Rattle.serde_json.specs.Data.{Data, depth}
 use Rattle.serde_json.specs.Read.{max_depth}
 use Rattle.report_text.specs.declared.line.Line.{Line}
 use Rattle.report_text.specs.declared.line.Line.TheVariants as line
-use Rattle.report_text.specs.Fields.{long_at}
+use Rattle.report_fields.specs.Fields.{long_at}
 use Rattle.report_text.specs.EndLine.{IsWellFormedEnd, end_data, end_at}
 use Rattle.report_text.specs.Lines.{IsWellFormed}
-use Rattle.report_text.proofs.Plain.{IsPlain}
-use Rattle.report_text.proofs.FieldFacts.{if_below-lt, below-long_at}
+use Rattle.report_fields.proofs.Plain.{IsPlain}
+use Rattle.report_fields.proofs.FieldFacts.{if_below-lt, below-long_at}
 
 -- a well-formed end's JSON is plain
 pub IsPlain-end_data : (answers brave ar iar undecided : ℕ) → IsWellFormedEnd answers brave ar iar undecided → IsPlain (end_data answers brave ar iar undecided)

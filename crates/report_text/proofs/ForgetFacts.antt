@@ -6,11 +6,11 @@ use Rattle.serde_json.specs.Data.{Data, depth}
 use Rattle.serde_json.specs.Read.{max_depth}
 use Rattle.report_text.specs.declared.line.Line.{Line}
 use Rattle.report_text.specs.declared.line.Line.TheVariants as line
-use Rattle.report_text.specs.Fields.{longs_at}
+use Rattle.report_fields.specs.Fields.{longs_at}
 use Rattle.report_text.specs.ForgetLine.{IsWellFormedForget, forget_data, forget_at}
 use Rattle.report_text.specs.Lines.{IsWellFormed}
-use Rattle.report_text.proofs.Plain.{IsPlain}
-use Rattle.report_text.proofs.FieldFacts.{items_depth-numbers, ArePlain-longs, each_of-longs, All-longs_at}
+use Rattle.report_fields.proofs.Plain.{IsPlain}
+use Rattle.report_fields.proofs.FieldFacts.{items_depth-numbers, ArePlain-longs, each_of-longs, All-longs_at}
 
 -- well-formed forgotten clauses' JSON is plain
 pub IsPlain-forget_data : (clauses : List ℕ) → IsWellFormedForget clauses → IsPlain (forget_data clauses)

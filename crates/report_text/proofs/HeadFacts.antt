@@ -10,11 +10,11 @@ use Rattle.cq_terms.specs.declared.facts.Repairs.{Repairs}
 use Rattle.cq_terms.specs.declared.facts.Repairs.TheVariants.{All, Pareto}
 use Rattle.report_text.specs.declared.line.Line.{Line}
 use Rattle.report_text.specs.declared.line.Line.TheVariants as line
-use Rattle.report_text.specs.Fields.{id_at, long_at, word_at}
+use Rattle.report_fields.specs.Fields.{id_at, long_at, word_at}
 use Rattle.report_text.specs.HeadLine.{is_known_version, if_known, IsWellFormedHead, repairs_word, repairs_of, head_data, head_at}
 use Rattle.report_text.specs.Lines.{IsWellFormed}
-use Rattle.report_text.proofs.Plain.{IsPlain}
-use Rattle.report_text.proofs.FieldFacts.{if_below-lt, below-id_at, below-long_at}
+use Rattle.report_fields.proofs.Plain.{IsPlain}
+use Rattle.report_fields.proofs.FieldFacts.{if_below-lt, below-id_at, below-long_at}
 
 -- the word for repairs is UTF-8
 IsUtf8-repairs_word : (repairs : Repairs) → IsUtf8 (repairs_word repairs)

@@ -8,7 +8,7 @@ use Rattle.serde_json.specs.Data.{Data, depth}
 use Rattle.serde_json.specs.Read.{read, max_depth}
 use Rattle.report_text.specs.declared.line.Line.{Line}
 use Rattle.report_text.specs.declared.line.Line.TheVariants as line
-use Rattle.report_text.specs.Fields.{word_at}
+use Rattle.report_fields.specs.Fields.{word_at}
 use Rattle.report_text.specs.HeadLine.{head_at}
 use Rattle.report_text.specs.CqLine.{cq_at}
 use Rattle.report_text.specs.ConflictLine.{conflict_at}
@@ -22,7 +22,7 @@ use Rattle.report_text.specs.AnswerLine.{answer_at}
 use Rattle.report_text.specs.EndLine.{end_at}
 use Rattle.report_text.specs.Lines.{IsWellFormed, data_of, text_of, line_of_kind, line_at, line_of}
 use Rattle.report_text.proofs.NoLineFeed.{has_line_feed}
-use Rattle.report_text.proofs.Plain.{IsPlain, read-compact_text, IsUtf8-compact_text}
+use Rattle.report_fields.proofs.Plain.{IsPlain, read-compact_text, IsUtf8-compact_text}
 use Rattle.report_text.proofs.NoLineFeed.{none-compact_text}
 use Rattle.report_text.proofs.HeadFacts.{IsPlain-head_data, depth-head_data, head_at-head_data, IsWellFormed-head_at}
 use Rattle.report_text.proofs.CqFacts.{IsPlain-cq_data, depth-cq_data, cq_at-cq_data, IsWellFormed-cq_at}

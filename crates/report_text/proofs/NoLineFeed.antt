@@ -10,7 +10,7 @@ use Rattle.json.specs.Print.{escape_byte, escape, quoted, token_text}
 use Rattle.serde_json.specs.Data.{unsigned, negative, float, Data, null, boolean, number, string, array, object, Items, no_items, item, Members, no_members}
 use Rattle.serde_json.specs.Data.{member}
 use Rattle.serde_json.specs.Written.{compact_text, items_text, members_text, comma_if}
-use Rattle.report_text.proofs.Plain.{IsPlain, ArePlain, HasPlain}
+use Rattle.report_fields.proofs.Plain.{IsPlain, ArePlain, HasPlain}
 
 -- whether some byte is a line feed
 abbrev pub has_line_feed : List ℕ → Bool

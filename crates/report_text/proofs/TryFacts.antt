@@ -8,11 +8,11 @@ use Rattle.report_text.specs.declared.line.Line.{Line}
 use Rattle.report_text.specs.declared.line.Line.TheVariants as line
 use Rattle.report_text.specs.declared.line.Question.{Question}
 use Rattle.report_text.specs.declared.line.Question.TheVariants.{Brave, Iar, Ar}
-use Rattle.report_text.specs.Fields.{ids_at}
+use Rattle.report_fields.specs.Fields.{ids_at}
 use Rattle.report_text.specs.TryLine.{IsWellFormedTry, question_word, question_of, question_at, try_data, try_at}
 use Rattle.report_text.specs.Lines.{IsWellFormed}
-use Rattle.report_text.proofs.Plain.{IsPlain}
-use Rattle.report_text.proofs.FieldFacts.{items_depth-numbers, ArePlain-ids, each_of-ids, All-ids_at}
+use Rattle.report_fields.proofs.Plain.{IsPlain}
+use Rattle.report_fields.proofs.FieldFacts.{items_depth-numbers, ArePlain-ids, each_of-ids, All-ids_at}
 
 -- a question's word is UTF-8
 IsUtf8-question_word : (question : Question) → IsUtf8 (question_word question)

@@ -6,7 +6,7 @@ use Rattle.report_text.specs.declared.line.Line.{Line}
 use Rattle.report_text.specs.declared.line.Line.TheVariants as line
 use Rattle.report_text.specs.declared.line.Verdict.{Verdict}
 use Rattle.report_text.specs.declared.line.Verdict.TheVariants.{Yes, No, Undecided}
-use Rattle.report_text.specs.Fields.{numbers_data, texts_data, word_at, longs_at, ids_at, texts_at}
+use Rattle.report_fields.specs.Fields.{numbers_data, texts_data, word_at, longs_at, ids_at, texts_at}
 
 -- an answer is well formed: each number is in its range, and each name is UTF-8
 pub record IsWellFormedAnswer (cores : List ℕ) (names : List (List ℕ)) (tuple : List ℕ) : Type 0 where

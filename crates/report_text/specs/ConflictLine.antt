@@ -3,7 +3,7 @@ use Rattle.std.specs.Prelude.{◌≡◌, ◌==◌, ℕ, ◌<◌, ◌^◌, ◌⊎
 use Rattle.serde_json.specs.Data.{Data, string, object, no_members, member}
 use Rattle.report_text.specs.declared.line.Line.{Line}
 use Rattle.report_text.specs.declared.line.Line.TheVariants as line
-use Rattle.report_text.specs.Fields.{number_data, numbers_data, id_at, ids_at}
+use Rattle.report_fields.specs.Fields.{number_data, numbers_data, id_at, ids_at}
 
 -- a conflict is well formed: it is of one or two facts, and each number is in its range
 pub record IsWellFormedConflict (facts : List ℕ) (rule place : ℕ) : Type 0 where

@@ -12,8 +12,8 @@ use Rattle.report_text.specs.declared.line.Line.{Line}
 use Rattle.report_text.specs.declared.line.Line.TheVariants as line
 use Rattle.report_text.specs.declared.line.Origin.{Origin}
 use Rattle.report_text.specs.declared.line.Origin.TheVariants as origin
-use Rattle.report_text.specs.Fields.{number_data, is_null, id_of, id_in, word_in}
-use Rattle.report_text.specs.Atoms.{IsTermInRange, IsAtomInRange, terms_data, atoms_data, terms_at, atoms_at}
+use Rattle.report_fields.specs.Fields.{number_data, is_null, id_of, id_in, word_in}
+use Rattle.report_fields.specs.Atoms.{IsTermInRange, IsAtomInRange, terms_data, atoms_data, terms_at, atoms_at}
 use Rattle.cq_terms.specs.SafeQuery.{if_safe}
 
 -- the number of the axiom is in its range

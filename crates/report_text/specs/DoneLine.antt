@@ -6,7 +6,7 @@ use Rattle.report_text.specs.declared.line.Line.{Line}
 use Rattle.report_text.specs.declared.line.Line.TheVariants as line
 use Rattle.report_text.specs.declared.line.How.{How}
 use Rattle.report_text.specs.declared.line.How.TheVariants.{Model, Refuted, Spent}
-use Rattle.report_text.specs.Fields.{long_or_null_data, word_at, long_or_null_at}
+use Rattle.report_fields.specs.Fields.{long_or_null_data, word_at, long_or_null_at}
 
 -- the end of a try is well formed: there is a core exactly where there is a model, and its number is in its range
 pub record IsWellFormedDone (how : How) (core : Option ℕ) : Type 0 where

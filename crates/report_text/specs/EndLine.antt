@@ -3,7 +3,7 @@ use Rattle.std.specs.Prelude.{ℕ, ◌<◌, ◌^◌, Option, Some, option_and_th
 use Rattle.serde_json.specs.Data.{Data, string, object, no_members, member}
 use Rattle.report_text.specs.declared.line.Line.{Line}
 use Rattle.report_text.specs.declared.line.Line.TheVariants as line
-use Rattle.report_text.specs.Fields.{number_data, long_at}
+use Rattle.report_fields.specs.Fields.{number_data, long_at}
 
 -- an end is well formed: each number is in its range
 pub record IsWellFormedEnd (answers brave ar iar undecided : ℕ) : Type 0 where

@@ -3,7 +3,7 @@ use Rattle.std.specs.Prelude.{ℕ, ◌<◌, ◌^◌, List, All, Option, Some, op
 use Rattle.serde_json.specs.Data.{Data, string, object, no_members, member}
 use Rattle.report_text.specs.declared.line.Line.{Line}
 use Rattle.report_text.specs.declared.line.Line.TheVariants as line
-use Rattle.report_text.specs.Fields.{numbers_data, longs_at}
+use Rattle.report_fields.specs.Fields.{numbers_data, longs_at}
 
 -- forgotten clauses are well formed: each number is in its range
 pub record IsWellFormedForget (clauses : List ℕ) : Type 0 where

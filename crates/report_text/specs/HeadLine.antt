@@ -7,7 +7,7 @@ use Rattle.cq_terms.specs.declared.facts.Repairs.{Repairs}
 use Rattle.cq_terms.specs.declared.facts.Repairs.TheVariants.{All, Pareto}
 use Rattle.report_text.specs.declared.line.Line.{Line}
 use Rattle.report_text.specs.declared.line.Line.TheVariants as line
-use Rattle.report_text.specs.Fields.{number_data, id_at, long_at, word_at}
+use Rattle.report_fields.specs.Fields.{number_data, id_at, long_at, word_at}
 
 -- the versions that are known
 abbrev pub known_versions : List ℕ

@@ -3,7 +3,7 @@ use Rattle.std.specs.Prelude.{ℕ, ◌<◌, ◌^◌, List, All, Option, Some, op
 use Rattle.serde_json.specs.Data.{Data, string, object, no_members, member}
 use Rattle.report_text.specs.declared.line.Line.{Line}
 use Rattle.report_text.specs.declared.line.Line.TheVariants as line
-use Rattle.report_text.specs.Fields.{number_data, numbers_data, long_at, ids_at}
+use Rattle.report_fields.specs.Fields.{number_data, numbers_data, long_at, ids_at}
 
 -- a learned clause is well formed: each number is in its range
 pub record IsWellFormedLearn (number : ℕ) (clause : List ℕ) : Type 0 where

@@ -1,12 +1,10 @@
 pub mod AnswerLine
 pub mod AskLine
-pub mod Atoms
 pub mod ConflictLine
 pub mod CoreLine
 pub mod CqLine
 pub mod DoneLine
 pub mod EndLine
-pub mod Fields
 pub mod ForgetLine
 pub mod HeadLine
 pub mod LearnLine

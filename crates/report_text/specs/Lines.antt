@@ -6,7 +6,7 @@ use Rattle.serde_json.specs.Read.{read}
 use Rattle.serde_json.specs.Written.{compact_text}
 use Rattle.report_text.specs.declared.line.Line.{Line}
 use Rattle.report_text.specs.declared.line.Line.TheVariants as line
-use Rattle.report_text.specs.Fields.{word_at}
+use Rattle.report_fields.specs.Fields.{word_at}
 use Rattle.report_text.specs.HeadLine.{IsWellFormedHead, head_data, head_at}
 use Rattle.report_text.specs.CqLine.{IsWellFormedCq, cq_data, cq_at}
 use Rattle.report_text.specs.ConflictLine.{IsWellFormedConflict, conflict_data, conflict_at}

@@ -6,7 +6,7 @@ use Rattle.report_text.specs.declared.line.Line.{Line}
 use Rattle.report_text.specs.declared.line.Line.TheVariants as line
 use Rattle.report_text.specs.declared.line.Question.{Question}
 use Rattle.report_text.specs.declared.line.Question.TheVariants.{Brave, Iar, Ar}
-use Rattle.report_text.specs.Fields.{numbers_data, word_at, ids_at}
+use Rattle.report_fields.specs.Fields.{numbers_data, word_at, ids_at}
 
 -- a try is well formed: each number is in its range
 pub record IsWellFormedTry (assume : List ℕ) : Type 0 where

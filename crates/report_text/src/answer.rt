@@ -7,10 +7,9 @@ ghost use Rattle.serde_json.specs.Written.{compact_text};
 ghost use Rattle.report_text.specs.AnswerLine.{verdict_word, answer_data, verdict_of, verdict_at, answer_at};
 ghost use Rattle.report_text.specs.Lines.{IsWellFormed};
 
-use crate::cursor::Cursor;
-use crate::fields::{ids_at, longs_at, put_ids, put_longs, put_texts, texts_at, word_at};
 use crate::{Line, Verdict};
 use cq_terms::{Ids, Longs, NoMemory, Texts};
+use report_fields::{Cursor, ids_at, longs_at, put_ids, put_longs, put_texts, texts_at, word_at};
 use serde_json::Value;
 use std::alloc::{AllocError, Global};
 

@@ -7,9 +7,8 @@ ghost use Rattle.report_text.specs.AskLine.{ask_data, ask_at};
 ghost use Rattle.report_text.specs.Lines.{IsWellFormed};
 
 use crate::Line;
-use crate::cursor::Cursor;
-use crate::fields::{id_at, id_lists_at, ids_at, put_id, put_id_lists, put_ids};
 use cq_terms::{IdLists, Ids, NoMemory};
+use report_fields::{Cursor, id_at, id_lists_at, ids_at, put_id, put_id_lists, put_ids};
 use serde_json::Value;
 use std::alloc::{AllocError, Global};
 

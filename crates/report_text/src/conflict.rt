@@ -7,9 +7,8 @@ ghost use Rattle.report_text.specs.ConflictLine.{is_one_or_two, conflict_data, c
 ghost use Rattle.report_text.specs.Lines.{IsWellFormed};
 
 use crate::Line;
-use crate::cursor::Cursor;
-use crate::fields::{id_at, ids_at, put_id, put_ids};
 use cq_terms::{Ids, NoMemory};
+use report_fields::{Cursor, id_at, ids_at, put_id, put_ids};
 use serde_json::Value;
 use std::alloc::{AllocError, Global};
 

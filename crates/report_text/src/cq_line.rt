@@ -5,11 +5,10 @@ ghost use Rattle.serde_json.specs.View.{view};
 ghost use Rattle.serde_json.specs.Written.{compact_text};
 ghost use Rattle.report_text.specs.CqLine.{origin_data, move_data, move_data_of, parent_data, cq_data, origin_of, origin_at, axiom_move_of, reduce_move_of, move_of_kind, move_of, step_of, step_at, query_at, cq_at};
 
-use crate::atoms::{atoms_at, put_atoms, put_terms, terms_at};
-use crate::fields::{id_in, id_of, put_id, word_in};
 use crate::{Line, Origin};
 use cq_steps::Move;
 use cq_terms::{Cq, NoMemory};
+use report_fields::{atoms_at, id_in, id_of, put_atoms, put_id, put_terms, terms_at, word_in};
 use serde_json::Value;
 use std::alloc::{AllocError, Global};
 

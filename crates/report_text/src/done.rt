@@ -7,9 +7,8 @@ ghost use Rattle.serde_json.specs.Written.{compact_text};
 ghost use Rattle.report_text.specs.DoneLine.{how_word, how_of, how_at, has_its_core, done_data, done_at};
 ghost use Rattle.report_text.specs.Lines.{IsWellFormed};
 
-use crate::cursor::Cursor;
-use crate::fields::{long_or_null_at, put_long_or_null, word_at};
 use crate::{How, Line};
+use report_fields::{Cursor, long_or_null_at, put_long_or_null, word_at};
 use serde_json::Value;
 use std::alloc::AllocError;
 

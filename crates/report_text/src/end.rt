@@ -6,7 +6,7 @@ ghost use Rattle.serde_json.specs.Written.{compact_text};
 ghost use Rattle.report_text.specs.EndLine.{end_data, end_at};
 
 use crate::Line;
-use crate::fields::{long_at, put_long};
+use report_fields::{long_at, put_long};
 use serde_json::Value;
 use std::alloc::AllocError;
 

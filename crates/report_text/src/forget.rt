@@ -7,9 +7,8 @@ ghost use Rattle.report_text.specs.ForgetLine.{forget_data, forget_at};
 ghost use Rattle.report_text.specs.Lines.{IsWellFormed};
 
 use crate::Line;
-use crate::cursor::Cursor;
-use crate::fields::{longs_at, put_longs};
 use cq_terms::{Longs, NoMemory};
+use report_fields::{Cursor, longs_at, put_longs};
 use serde_json::Value;
 use std::alloc::{AllocError, Global};
 

@@ -7,8 +7,8 @@ ghost use Rattle.serde_json.specs.Written.{compact_text};
 ghost use Rattle.report_text.specs.HeadLine.{is_known_version, repairs_word, head_data, repairs_of, head_at};
 
 use crate::Line;
-use crate::fields::{id_at, long_at, put_id, put_long, word_at};
 use cq_terms::Repairs;
+use report_fields::{id_at, long_at, put_id, put_long, word_at};
 use serde_json::Value;
 use std::alloc::AllocError;
 

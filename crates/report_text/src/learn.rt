@@ -7,9 +7,8 @@ ghost use Rattle.report_text.specs.LearnLine.{learn_data, learn_at};
 ghost use Rattle.report_text.specs.Lines.{IsWellFormed};
 
 use crate::Line;
-use crate::cursor::Cursor;
-use crate::fields::{ids_at, long_at, put_ids, put_long};
 use cq_terms::{Ids, NoMemory};
+use report_fields::{Cursor, ids_at, long_at, put_ids, put_long};
 use serde_json::Value;
 use std::alloc::{AllocError, Global};
 

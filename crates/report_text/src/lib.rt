@@ -3,14 +3,11 @@
 
 mod answer;
 mod ask;
-mod atoms;
 mod conflict;
 mod core_line;
 mod cq_line;
-mod cursor;
 mod done;
 mod end;
-mod fields;
 mod forget;
 mod head;
 mod learn;

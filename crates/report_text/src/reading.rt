@@ -14,16 +14,15 @@ use crate::ask::{ask_at, ask_in};
 use crate::conflict::{conflict_at, conflict_in};
 use crate::core_line::{core_at, core_in};
 use crate::cq_line::cq_at;
-use crate::cursor::Cursor;
 use crate::done::{done_at, done_in};
 use crate::end::end_at;
-use crate::fields::word_at;
 use crate::forget::{forget_at, forget_in};
 use crate::head::head_at;
 use crate::learn::{learn_at, learn_in};
 use crate::printing::put_line;
 use crate::try_line::{try_at, try_in};
 use cq_terms::NoMemory;
+use report_fields::{Cursor, word_at};
 use serde_json::{Error, Value};
 use std::alloc::Global;
 

@@ -7,10 +7,9 @@ ghost use Rattle.serde_json.specs.Written.{compact_text};
 ghost use Rattle.report_text.specs.TryLine.{question_word, question_of, question_at, try_data, try_at};
 ghost use Rattle.report_text.specs.Lines.{IsWellFormed};
 
-use crate::cursor::Cursor;
-use crate::fields::{ids_at, put_ids, word_at};
 use crate::{Line, Question};
 use cq_terms::{Ids, NoMemory};
+use report_fields::{Cursor, ids_at, put_ids, word_at};
 use serde_json::Value;
 use std::alloc::{AllocError, Global};
 

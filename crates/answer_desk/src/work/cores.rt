@@ -8,15 +8,14 @@ ghost use Rattle.cq_terms.specs.Lists.{IsAscending};
 ghost use Rattle.explainer.specs.Wanted.{SatisfiesComponents};
 ghost use Rattle.priority_graph.specs.Cores.{ConflictsWith, IsCore, IsDirect, IsFree};
 ghost use Rattle.priority_graph.specs.Priority.{IsOver};
-ghost use Rattle.answer_desk.specs.Aims.{IsCoreOver, IsHard, IsKnown, IsOver as IsAimOver, Shows, assumed_for};
+ghost use Rattle.answer_evidence.specs.Aims.{IsCoreOver, IsHard, IsKnown, IsOver as IsAimOver, Shows, assumed_for};
 ghost use Rattle.answer_desk.specs.Models.{HasModel};
-ghost use Rattle.answer_desk.specs.Sets.{EachMeets};
+ghost use Rattle.answer_evidence.specs.Sets.{EachMeets};
 ghost use Rattle.explainer.specs.Missing.{AreMissing, SomeIsPresent};
 ghost use Rattle.answer_desk.specs.Openings.{DropsDirectly, IsOpen};
 
-use crate::aim::Aim;
-use crate::opening::Opening;
 use crate::work::Work;
+use answer_evidence::{Aim, Opening};
 use cq_terms::{IdLists, Ids, NoMemory};
 use explainer::{Core, core_of, missing};
 

@@ -11,10 +11,8 @@ ghost use Rattle.answer_desk.specs.Openings.{IsOpen, HasRoom, Spends, IsSameOpen
 ghost use Rattle.answer_desk.specs.Trying.{cores_after};
 
 use crate::ClassifyFault;
-use crate::aim::Aim;
-use crate::lists::is_among;
-use crate::opening::Opening;
 use crate::work::Work;
+use answer_evidence::{Aim, Opening, is_among};
 use cdcl_core::Budget;
 use cq_terms::{IdLists, Ids};
 use report_text::{How, Question, Report};

@@ -5,7 +5,7 @@ use Rattle.std.proofs.lemmas.List.Elements.{All-more}
 use Rattle.cq_terms.specs.declared.query.QAtom.{QAtom}
 use Rattle.cq_terms.specs.declared.query.QAtom.TheVariants as atom
 use Rattle.cq_terms.specs.declared.query.Term.TheVariants.{Var}
-use Rattle.report_text.specs.Atoms.{IsAtomInRange}
+use Rattle.report_fields.specs.Atoms.{IsAtomInRange}
 use Rattle.classifier.proofs.whole.fit_atoms.Goals as goal
 
 pub loop-atom-preserved : goal.loop-atom-preserved

@@ -1,6 +1,6 @@
 use Rattle.std.proofs.Common.{take}
 use Rattle.std.specs.Prelude.{All}
-use Rattle.report_text.specs.Atoms.{IsAtomInRange}
+use Rattle.report_fields.specs.Atoms.{IsAtomInRange}
 use Rattle.classifier.proofs.whole.fit_atoms.Given as goal
 
 abbrev pub invariant-loop-atom : goal.invariant-loop-atom

@@ -4,7 +4,7 @@ use Rattle.std.proofs.lemmas.List.{take_all}
 use Rattle.std.proofs.lemmas.List.Elements.{All-more}
 use Rattle.cq_terms.specs.declared.query.Term.{Term}
 use Rattle.cq_terms.specs.declared.query.Term.TheVariants.{Var}
-use Rattle.report_text.specs.Atoms.{IsTermInRange}
+use Rattle.report_fields.specs.Atoms.{IsTermInRange}
 use Rattle.classifier.proofs.whole.fit_terms.Goals as goal
 
 pub loop-term-preserved : goal.loop-term-preserved

@@ -3,7 +3,8 @@ use Rattle.cq_terms.specs.Conflicts.{AreInConflict}
 use Rattle.repair_clauses.specs.BaseClauses.{IsBaseClause}
 use Rattle.repair_clauses.specs.Components.{IsClosedUnder}
 use Rattle.cdcl_core.specs.State.{State}
-use Rattle.answer_desk.specs.Loading.{IsRange, Loads, AreAddable}
+use Rattle.answer_desk.specs.Loading.{Loads, AreAddable}
+use Rattle.answer_evidence.specs.Ranges.{IsRange}
 use Rattle.answer_desk.proofs.LoadLemmas.{AreAddable-from_forms}
 use Rattle.answer_desk.proofs.ReadyLemmas.{all_known, all_closed, begun_ready}
 use Rattle.answer_desk.proofs.desk.Desk.new.Goals as goal

@@ -1,6 +1,6 @@
 use Rattle.std.proofs.Common.{◌+◌, refl, ap, ◌∙◌, arith}
 use Rattle.std.proofs.lemmas.Result.{on_ok_weaker}
-use Rattle.answer_desk.specs.declared.opening.Opening.{Opening}
+use Rattle.answer_evidence.specs.declared.opening.Opening.{Opening}
 use Rattle.answer_desk.specs.Works.{desk_of}
 use Rattle.answer_desk.proofs.FollowingWholeLemmas.{opened, asked_on, asked_off, cores_stay, causes_few, unopened, unasked, answers_fault}
 use Rattle.answer_desk.proofs.FollowingWholeLemmas.{closed_right, closed_true, closed_over_all, closed_by_budget, closed_again, closed_desk, ok_two}

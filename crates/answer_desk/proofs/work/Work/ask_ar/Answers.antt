@@ -3,13 +3,13 @@ use Rattle.cdcl_core.specs.declared.outcome.Budget.{Budget}
 use Rattle.report_text.specs.declared.line.How.{How}
 use Rattle.report_text.specs.declared.line.How.TheVariants as how
 use Rattle.report_text.specs.declared.line.Question.TheVariants as question
-use Rattle.answer_desk.specs.declared.evidence.Evidence.{Evidence}
+use Rattle.answer_evidence.specs.declared.evidence.Evidence.{Evidence}
 use Rattle.answer_desk.specs.Following.{AtIar, AtEnd, FollowsOpen, GoesOn, StopsAfter, IarIsOver, SeesAr}
 use Rattle.answer_desk.specs.Frames.{ForEachFrame}
-use Rattle.answer_desk.specs.declared.opening.Opening.{Opening}
+use Rattle.answer_evidence.specs.declared.opening.Opening.{Opening}
 use Rattle.answer_desk.specs.Openings.{IsOpen}
 use Rattle.answer_desk.proofs.OpenLemmas.{IsOpen-seen}
-use Rattle.answer_desk.specs.Shown.{is_undecided, verdict_in}
+use Rattle.answer_evidence.specs.Shown.{is_undecided, verdict_in}
 use Rattle.answer_desk.proofs.FollowingAskLemmas.{adds_none, frame_on, same_opening, settled_by, unsettled_by, sees_ar_same, tries_variables}
 use Rattle.answer_desk.proofs.FollowingCallLemmas.{ar_follows, ar_stops}
 use Rattle.answer_desk.proofs.FollowingStepLemmas.{ar_settled}

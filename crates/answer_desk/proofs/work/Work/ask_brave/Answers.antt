@@ -3,7 +3,7 @@ use Rattle.std.proofs.lemmas.List.{get_or_default}
 use Rattle.std.proofs.lemmas.List.Elements.{Contains-get_or}
 use Rattle.cdcl_core.specs.declared.outcome.Budget.{Budget}
 use Rattle.report_text.specs.declared.line.How.TheVariants as how
-use Rattle.answer_desk.specs.declared.evidence.Evidence.{Evidence}
+use Rattle.answer_evidence.specs.declared.evidence.Evidence.{Evidence}
 use Rattle.answer_desk.specs.Following.{AtBrave, AtIar, FollowsOpen, GoesOn, StopsAfter}
 use Rattle.answer_desk.specs.Frames.{ForEachFrame}
 use Rattle.answer_desk.proofs.FollowingAskLemmas.{leads_then, halts_then, brave_at, iar_at, frame_on, same_after}

@@ -1,7 +1,7 @@
 use Rattle.std.proofs.Common.{rules, ◌≡◌, List, ℕ, Contains, OnErr, Result, Ok, Err, refl, sym, subst}
 use Rattle.report_text.specs.declared.line.How.{How}
 use Rattle.report_text.specs.declared.line.How.TheVariants as how
-use Rattle.answer_desk.specs.declared.evidence.Evidence.{Evidence}
+use Rattle.answer_evidence.specs.declared.evidence.Evidence.{Evidence}
 use Rattle.answer_desk.specs.Following.{AtBrave, FollowsOpen, CauseGoesOn, SeesBrave, StopsAfter}
 use Rattle.answer_desk.specs.Frames.{ForEachFrame}
 use Rattle.answer_desk.proofs.FollowingAskLemmas.{tries_variables}

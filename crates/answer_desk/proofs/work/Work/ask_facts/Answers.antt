@@ -6,7 +6,7 @@ use Rattle.answer_desk.specs.Asking.{IsCauseAt}
 use Rattle.answer_desk.specs.Following.{AtIar, FollowsOpen, IsFrameFor, StopsAfter}
 use Rattle.answer_desk.specs.Frames.{ForEachFrame}
 use Rattle.answer_desk.specs.PlacesOver.{IsAskedAt}
-use Rattle.answer_desk.specs.Shown.{is_undecided, verdict_in}
+use Rattle.answer_evidence.specs.Shown.{is_undecided, verdict_in}
 use Rattle.answer_desk.proofs.FollowingAskLemmas.{iar_at, halts_then, frame_on, only_then, same_then, spends_none, spends_then, room_left}
 use Rattle.answer_desk.proofs.FollowingAskLemmas.{facts_none, facts_next, facts_settled, facts_all, facts_left, fact_asked, same_after}
 use Rattle.answer_desk.proofs.FollowingAskLemmas.{refuted_more, refuted_cut, refuted_all, settled_by, unsettled_by}

@@ -5,7 +5,7 @@ use Rattle.clause_meaning.specs.Refutation.{IsWithin}
 use Rattle.explainer.specs.declared.cores.Core.{Core}
 use Rattle.explainer.specs.Wanted.{IsCoreFor}
 use Rattle.priority_graph.specs.Priority.{Priority}
-use Rattle.answer_desk.specs.Aims.{IsCoreOver}
+use Rattle.answer_evidence.specs.Aims.{IsCoreOver}
 use Rattle.answer_desk.proofs.ModelLemmas.{core_over}
 use Rattle.answer_desk.proofs.work.Work.core_within.Goals as goal
 

@@ -5,8 +5,8 @@ use Rattle.explainer.specs.declared.cores.Core.{Core}
 use Rattle.explainer.specs.Missing.{AreMissing}
 use Rattle.explainer.specs.Wanted.{SatisfiesComponents}
 use Rattle.priority_graph.specs.Priority.{Priority}
-use Rattle.answer_desk.specs.Aims.{IsCoreOver}
-use Rattle.answer_desk.specs.Sets.{EachMeets}
+use Rattle.answer_evidence.specs.Aims.{IsCoreOver}
+use Rattle.answer_evidence.specs.Sets.{EachMeets}
 use Rattle.answer_desk.proofs.ModelLemmas.{missing_known, missing_outside, missing_meets}
 use Rattle.answer_desk.proofs.work.Work.core_without.Goals as goal
 

@@ -4,7 +4,7 @@ use Rattle.std.proofs.lemmas.List.Elements.{Contains-get_or}
 use Rattle.explainer.specs.declared.cores.Core.{Core}
 use Rattle.priority_graph.specs.Cores.{IsCore, IsDirect, ConflictsWith}
 use Rattle.answer_desk.proofs.RivalLemmas.{free_rival}
-use Rattle.answer_desk.proofs.SetLemmas.{each_at}
+use Rattle.answer_evidence.proofs.SetLemmas.{each_at}
 use Rattle.answer_desk.proofs.work.Work.direct_against.Goals as goal
 
 pub direct_of-requires-clause-free : goal.direct_of-requires-clause-free

@@ -7,8 +7,8 @@ use Rattle.cq_terms.specs.Lists.{IsAscending}
 use Rattle.explainer.specs.declared.cores.Core.{Core}
 use Rattle.priority_graph.specs.Priority.{Priority, IsPriority, IsOver}
 use Rattle.priority_graph.proofs.DirectLemmas.{Conflict-sym, conflict_of, conflict_below}
-use Rattle.answer_desk.specs.Aims.{IsCoreOver, Shows}
-use Rattle.answer_desk.specs.declared.aim.Aim.{Aim}
+use Rattle.answer_evidence.specs.Aims.{IsCoreOver, Shows}
+use Rattle.answer_evidence.specs.declared.aim.Aim.{Aim}
 use Rattle.answer_desk.specs.Openings.{DropsDirectly}
 use Rattle.answer_desk.proofs.work.Work.direct_core.Goals as goal
 

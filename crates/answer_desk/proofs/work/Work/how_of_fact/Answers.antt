@@ -1,6 +1,6 @@
 use Rattle.std.proofs.Common.{rules, List, ℕ, [], OnErr, Option, Some, None, Result, Ok, Err, refl, sym, subst}
 use Rattle.report_text.specs.declared.line.Line.{Line}
-use Rattle.answer_desk.specs.declared.aim.Aim.TheVariants as aim
+use Rattle.answer_evidence.specs.declared.aim.Aim.TheVariants as aim
 use Rattle.answer_desk.specs.Following.{AtIar, FollowsOpen, GoesOn, AddsLines, StopsAfter}
 use Rattle.answer_desk.specs.Frames.{ForEachFrame}
 use Rattle.answer_desk.specs.PlacesOver.{IsAskedAt}

@@ -2,8 +2,8 @@ use Rattle.std.proofs.Common.{◌<◌, ◌≤◌, ◌+◌, ◌^◌, ℕ, List, m
 use Rattle.repair_clauses.specs.CauseClauses.{cause_clause}
 use Rattle.answer_desk.specs.Loading.{AreLoadable, Loads}
 use Rattle.answer_desk.specs.Openings.{IsOpen}
-use Rattle.answer_desk.specs.Reached.{IsScopeWith}
-use Rattle.answer_desk.specs.Shown.{ShowsNothing}
+use Rattle.answer_evidence.specs.Reached.{IsScopeWith}
+use Rattle.answer_evidence.specs.Shown.{ShowsNothing}
 use Rattle.answer_desk.proofs.OpenLemmas.{causes_loadable, cut_nothing, IsOpen-loaded}
 use Rattle.answer_desk.proofs.work.Work.open.Goals as goal
 

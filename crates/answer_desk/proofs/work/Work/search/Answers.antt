@@ -1,8 +1,8 @@
 use Rattle.std.proofs.Common.{ℕ, List, sym, subst, rules}
 use Rattle.cdcl_core.specs.Solving.{AreAskable, Learns, Ends, cleared}
-use Rattle.answer_desk.specs.Logging.{AddsLearns}
+use Rattle.answer_evidence.specs.Logging.{AddsLearns}
 use Rattle.answer_desk.specs.Trying.{BreaksSearch}
-use Rattle.answer_desk.proofs.LoggingLemmas.{search_adds, search_breaks}
+use Rattle.answer_desk.proofs.SearchLogLemmas.{search_adds, search_breaks}
 use Rattle.answer_desk.proofs.SolverLemmas.{IsOpen-learned, Spends-learned}
 use Rattle.answer_desk.proofs.TryLemmas.{on_err}
 use Rattle.answer_desk.proofs.work.Work.search.Goals as goal

@@ -5,14 +5,12 @@ use Rattle.clause_meaning.specs.Learning.{is_in}
 use Rattle.report_text.specs.declared.line.Line.{Line}
 use Rattle.report_text.specs.declared.line.Line.TheVariants as line
 use Rattle.report_text.specs.declared.line.How.TheVariants as how
-use Rattle.answer_desk.specs.Aims.{IsCoreOver}
+use Rattle.answer_evidence.specs.Aims.{IsCoreOver, asked_for}
 use Rattle.answer_desk.specs.Trying.{Try, Search, IsCoreOf, try_at, Gets, core_lines, BreaksSearch, IsPartOf}
-use Rattle.answer_desk.specs.Aims.{asked_for}
-use Rattle.answer_desk.proofs.TryLemmas.{Broken}
+use Rattle.answer_desk.proofs.TryLemmas.{Broken, on_ok_of, on_err, first_line, learnt_none, broken_try, broken_later, broken_search, tried_core}
 use Rattle.answer_desk.specs.Openings.{IsOpen}
 use Rattle.answer_desk.proofs.AimLemmas.{aim_inside}
 use Rattle.answer_desk.proofs.OpenLemmas.{IsOpen-seen}
-use Rattle.answer_desk.proofs.TryLemmas.{on_ok_of, on_err, first_line, learnt_none, broken_try, broken_later, broken_search, tried_core}
 use Rattle.answer_desk.proofs.TryLemmas.{broken_core, tried_done, broken_done}
 use Rattle.answer_desk.proofs.TryLemmas.{Gets-same, Gets-learned, core_found, learnt_by, learnt_same, refuted_by, spent_by}
 use Rattle.answer_desk.proofs.work.Work.try_assuming.Goals as goal

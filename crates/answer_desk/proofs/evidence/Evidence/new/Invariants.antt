@@ -1,5 +1,0 @@
-use Rattle.std.proofs.Common.{◌≡◌, map, take, false}
-use Rattle.answer_desk.proofs.evidence.Evidence.new.Given as goal
-
-abbrev pub invariant-loop-cause : goal.invariant-loop-cause
-invariant-loop-cause l = l.cut.items ≡ map (λ _. false) (take l._cause-index l.causes)

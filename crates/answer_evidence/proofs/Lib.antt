@@ -1,0 +1,3 @@
+pub mod LoggingLemmas
+pub mod RangeLemmas
+pub mod SetLemmas

@@ -1,0 +1,4 @@
+pub mod AtomFacts
+pub mod EscapeFacts
+pub mod FieldFacts
+pub mod Plain

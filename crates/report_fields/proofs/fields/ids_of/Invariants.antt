@@ -1,0 +1,8 @@
+use Rattle.std.proofs.Common.{◌≡◌, ◌++◌, drop, option_map}
+use Rattle.serde_json.specs.View.{items_view}
+use Rattle.report_fields.specs.Fields.{each_of, id_of}
+use Rattle.report_fields.proofs.fields.ids_of.Given as goal
+
+-- the numbers so far go before what the rest of the items gives
+abbrev pub invariant-loop-item : goal.invariant-loop-item
+invariant-loop-item l = each_of id_of (items_view l.items) ≡ option_map (λ rest. l.ids ++ rest) (each_of id_of (items_view (drop l.item-index l.items)))
