@@ -8,7 +8,7 @@ use Rattle.cq_meaning.proofs.Ascending.{All-of}
 use Rattle.cq_meaning.proofs.Members.{Contains-head}
 use Rattle.priority_graph.specs.Split.{has}
 use Rattle.cdcl_core.specs.State.{State}
-use Rattle.cdcl_core.specs.Logs.{Learned}
+use Rattle.proof_logs.specs.Logs.{Learned}
 use Rattle.cdcl_core.specs.Learning.{IsRefuted}
 use Rattle.report_text.specs.declared.line.Line.{Line}
 use Rattle.report_text.specs.declared.line.Line.TheVariants as line

@@ -8,7 +8,7 @@ use Rattle.report_text.specs.declared.line.Line.TheVariants as line
 use Rattle.report_text.specs.declared.line.Question.{Question}
 use Rattle.report_text.specs.declared.line.Question.TheVariants as question
 use Rattle.report_text.specs.Reports.{AddsLine, StayTold}
-use Rattle.cdcl_core.specs.Logs.{Learned}
+use Rattle.proof_logs.specs.Logs.{Learned}
 use Rattle.report_rules.specs.Tries.{count_cores}
 use Rattle.report_rules.specs.Live.{count_learned, same_question}
 use Rattle.report_laws.specs.DeskAnswers.{ask_line}

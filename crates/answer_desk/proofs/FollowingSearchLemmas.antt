@@ -10,7 +10,7 @@ use Rattle.clause_meaning.specs.Learning.{IsLearnableIn}
 use Rattle.clause_meaning.specs.Refutation.{Refutes}
 use Rattle.priority_graph.specs.Split.{has}
 use Rattle.cdcl_core.specs.State.{State, LiveClause, LiveIn}
-use Rattle.cdcl_core.specs.Logs.{Learned}
+use Rattle.proof_logs.specs.Logs.{Learned}
 use Rattle.cdcl_core.specs.Learning.{IsRefuted, MayLearn, AreLearned, with_learned, with_all}
 use Rattle.cdcl_core.specs.Solving.{Learns, cleared}
 use Rattle.cdcl_core.specs.declared.outcome.Budget.{Budget}

@@ -8,7 +8,7 @@ use Rattle.clause_meaning.specs.Refutation.{IsWithin}
 use Rattle.cq_terms.specs.Knowledge.{Knowledge}
 use Rattle.repair_clauses.specs.BaseClauses.{present, absent}
 use Rattle.cdcl_core.specs.State.{State}
-use Rattle.cdcl_core.specs.Logs.{Learned}
+use Rattle.proof_logs.specs.Logs.{Learned}
 use Rattle.cdcl_core.specs.Learning.{IsRefuted}
 use Rattle.report_text.specs.declared.line.Line.{Line}
 use Rattle.report_text.specs.declared.line.Line.TheVariants as line

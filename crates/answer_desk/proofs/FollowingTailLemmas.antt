@@ -2,7 +2,7 @@
 use Rattle.std.proofs.Common.{◌≡◌, ℕ, suc, ◌+◌, ◌<◌, ◌⊎◌, ◌↔◌, inl, inr, List, [], ◌∷◌, ◌++◌, length, Contains, false, refl, sym, subst, ap, ◌∙◌, arith}
 use Rattle.std.proofs.Common.{Option, Some, None}
 use Rattle.cq_meaning.proofs.Members.{Contains-head, Contains-later, Contains-cases, Contains-nil}
-use Rattle.cdcl_core.specs.Logs.{Learned}
+use Rattle.proof_logs.specs.Logs.{Learned}
 use Rattle.report_text.specs.declared.line.Line.{Line}
 use Rattle.report_text.specs.declared.line.Line.TheVariants as line
 use Rattle.report_text.specs.declared.line.Question.{Question}

@@ -8,7 +8,7 @@ use Rattle.cq_terms.specs.Knowledge.{Knowledge}
 use Rattle.priority_graph.specs.Priority.{Priority}
 use Rattle.repair_clauses.specs.BaseClauses.{present, absent}
 use Rattle.cdcl_core.specs.State.{State}
-use Rattle.cdcl_core.specs.Logs.{Learned}
+use Rattle.proof_logs.specs.Logs.{Learned}
 use Rattle.cdcl_core.specs.Learning.{AreLearned, with_learned}
 use Rattle.cdcl_core.specs.Solving.{cleared}
 use Rattle.report_text.specs.declared.line.Line.{Line}

@@ -3,7 +3,7 @@ use Rattle.std.proofs.Common.{◌≡◌, ℕ, List, ◌++◌, Option, Some, None
 use Rattle.std.specs.Prelude.{reverse}
 use Rattle.std.proofs.lemmas.Option.{none-some}
 use Rattle.report_text.specs.declared.line.Line.{Line}
-use Rattle.cdcl_core.specs.Logs.{Learned, LogContent}
+use Rattle.proof_logs.specs.Logs.{Learned, LogContent}
 use Rattle.cdcl_core.specs.Solving.{LogEnds, cleared}
 use Rattle.cdcl_core.specs.State.{State}
 use Rattle.cdcl_core.specs.declared.outcome.Budget.{Budget}

@@ -6,7 +6,7 @@ use Rattle.std.proofs.lemmas.List.Elements.{Contains-push_cases}
 use Rattle.clause_meaning.specs.Assignments.{Separates, IsInside}
 use Rattle.clause_meaning.specs.Learning.{is_in}
 use Rattle.cdcl_core.specs.State.{State, LiveClause, LiveIn}
-use Rattle.cdcl_core.specs.Logs.{Learned}
+use Rattle.proof_logs.specs.Logs.{Learned}
 use Rattle.cdcl_core.specs.Learning.{AreLearned, with_learned, with_all}
 use Rattle.cdcl_core.specs.Solving.{Learns, cleared}
 use Rattle.cdcl_core.specs.declared.outcome.Budget.{Budget}

@@ -4,7 +4,7 @@ use Rattle.std.specs.Prelude.{Option, Some, None, Result, Ok, Err, IfSome, IfOk,
 use Rattle.std.proofs.lemmas.List.{append_assoc, append-nil}
 use Rattle.clause_meaning.proofs.Members.{Contains-nil}
 use Rattle.cdcl_core.specs.State.{State}
-use Rattle.cdcl_core.specs.Logs.{Learned}
+use Rattle.proof_logs.specs.Logs.{Learned}
 use Rattle.cdcl_core.specs.Solving.{Learns, Ends, cleared}
 use Rattle.cdcl_core.specs.declared.outcome.Budget.{Budget}
 use Rattle.report_text.specs.declared.line.Line.{Line}

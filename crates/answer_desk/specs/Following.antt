@@ -8,7 +8,7 @@ use Rattle.priority_graph.specs.Priority.{Priority, IsPriority, IsOver}
 use Rattle.priority_graph.specs.Inputs.{IsPriorityOf}
 use Rattle.repair_clauses.specs.BaseClauses.{AllFacts, IsBaseClause, present, absent}
 use Rattle.cdcl_core.specs.State.{State}
-use Rattle.cdcl_core.specs.Logs.{Learned}
+use Rattle.proof_logs.specs.Logs.{Learned}
 use Rattle.report_text.specs.declared.line.Line.{Line}
 use Rattle.report_text.specs.declared.line.Line.TheVariants as line
 use Rattle.report_text.specs.declared.line.Question.{Question}

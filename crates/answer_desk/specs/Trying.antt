@@ -2,7 +2,7 @@
 use Rattle.std.specs.Prelude.{◌≡◌, ◌⊎◌, ◌<◌, ◌≤◌, ◌+◌, ℕ, List, [], ◌∷◌, ◌++◌, map, Option, Some, None, IfSome}
 use Rattle.cq_terms.specs.Conflicts.{ConflictGraph}
 use Rattle.cdcl_core.specs.State as solver
-use Rattle.cdcl_core.specs.Logs.{Learned}
+use Rattle.proof_logs.specs.Logs.{Learned}
 use Rattle.cdcl_core.specs.Learning.{IsRefuted, MayLearn}
 use Rattle.cdcl_core.specs.Solving.{Learns, cleared}
 use Rattle.cdcl_core.specs.declared.outcome.Budget.{Budget}

@@ -5,7 +5,7 @@ use Rattle.std.proofs.lemmas.List.{reverse-append, reverse-reverse, map-append, 
 use Rattle.report_text.specs.declared.line.Line.{Line}
 use Rattle.report_text.specs.declared.line.Line.TheVariants as line
 use Rattle.report_text.specs.Reports.{AddsLine, StayTold, torn_after}
-use Rattle.cdcl_core.specs.Logs.{Learned, LogContent, IsWhole, HasWhatItHad, Appends, TearsAt}
+use Rattle.proof_logs.specs.Logs.{Learned, LogContent, IsWhole, HasWhatItHad, Appends, TearsAt}
 use Rattle.cdcl_core.specs.Solving.{LogGets, LogFailsOn, LogEnds}
 use Rattle.cdcl_core.specs.State.{State}
 use Rattle.cdcl_core.specs.declared.outcome.Budget.{Budget}

@@ -1,8 +1,8 @@
 -- A report as a log of learned clauses: those of the `learn` lines behind its last line of another kind.
 use Rattle.std.specs.Prelude.{◌≡◌, ◌⊎◌, ℕ, List, [], ◌∷◌, ◌++◌, reverse, map, Option, Some, None}
-use Rattle.cdcl_core.specs.Logs.{Learned, LogContent}
-use Rattle.cdcl_core.specs.declared.outcome.LogFault.{LogFault}
-use Rattle.cdcl_core.specs.declared.outcome.LogFault.TheVariants as log_fault
+use Rattle.proof_logs.specs.Logs.{Learned, LogContent}
+use Rattle.proof_logs.specs.declared.log_fault.LogFault.{LogFault}
+use Rattle.proof_logs.specs.declared.log_fault.LogFault.TheVariants as log_fault
 use Rattle.report_text.specs.declared.report.LineFault.{LineFault}
 use Rattle.report_text.specs.declared.report.LineFault.TheVariants as line_fault
 use Rattle.report_text.specs.declared.line.Line.{Line}

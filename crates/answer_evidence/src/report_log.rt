@@ -1,12 +1,12 @@
 //! A log of learned clauses over a report: each goes there as a `learn` line.
 
 ghost use Rattle.std.specs.Prelude.{◌≡◌, IfErr, OnOk, None};
-ghost use Rattle.cdcl_core.specs.Logs.{IsWhole, Appends, Tears, RisesAt};
+ghost use Rattle.proof_logs.specs.Logs.{IsWhole, Appends, Tears, RisesAt};
 ghost use Rattle.answer_evidence.specs.Logging.{log_content, OnlyLearns, TearsLearn};
 
 use crate::copies::fit;
-use cdcl_core::{LogFault, ProofLog};
 use cq_terms::Ids;
+use proof_logs::{LogFault, ProofLog};
 use report_text::{Line, LineFault, Report};
 use std::alloc::Global;
 

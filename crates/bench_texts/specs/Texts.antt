@@ -31,7 +31,7 @@ concepts_of remainder =
 abbrev pub holds : ℕ → ℕ → List ℕ
 holds concept i = line (codes "K") concept (codes ",p") i
 
--- the records of an individual: R15,p{i},d{i}, and then its concepts by i mod 5
+-- the records of an individual: its link to another one, and then its concepts by i mod 5
 abbrev pub person : ℕ → List ℕ
 person i = line (codes "R15,p") i (codes ",d") i ++ flat_map (λ concept. holds concept i) (concepts_of (i % 5))
 

@@ -20,7 +20,7 @@ use Rattle.cdcl_core.specs.State.{State, LiveClause, LiveIn, numbers_in}
 use Rattle.cdcl_core.specs.Labels.{labelled}
 use Rattle.cdcl_core.specs.Store.{StoreState, AreCounted, IsProper, AreProper, AreNumbered, IsKept}
 use Rattle.cdcl_core.specs.Changes.{live_in}
-use Rattle.cdcl_core.specs.Logs.{LogContent}
+use Rattle.proof_logs.specs.Logs.{LogContent}
 use Rattle.cdcl_core.specs.Learning.{IsNew, with_learned}
 use Rattle.cdcl_core.specs.Seeking.{LogRefuses, FailsOn, bare}
 use Rattle.cdcl_core.proofs.Labelling.{labelled-push, numbers_in-push}

@@ -5,7 +5,6 @@ pub mod Counting
 pub mod Labelling
 pub mod Sweeps
 pub mod Numbering
-pub mod LogLemmas
 pub mod StoreKept
 pub mod Shows
 pub mod Values

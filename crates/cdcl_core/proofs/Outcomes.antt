@@ -10,7 +10,7 @@ use Rattle.cdcl_core.specs.Store.{StoreState}
 use Rattle.cdcl_core.specs.Shown.{literals_on, values_on}
 use Rattle.cdcl_core.specs.Changes.{live_in}
 use Rattle.cdcl_core.specs.Solving.{AreAskable, Ends, Learns}
-use Rattle.cdcl_core.specs.Logs.{Learned}
+use Rattle.proof_logs.specs.Logs.{Learned}
 use Rattle.cdcl_core.specs.Learning.{with_learned, with_all}
 use Rattle.cdcl_core.specs.Seeking.{StoreEnds, is_model_of, bare}
 use Rattle.cdcl_core.proofs.Seeks.{contains_in}

@@ -12,7 +12,7 @@ use Rattle.cdcl_core.specs.declared.outcome.SolveFault.{SolveFault}
 use Rattle.cdcl_core.specs.declared.outcome.SolveFault.TheVariants as fault
 use Rattle.cdcl_core.specs.State.{State, LiveClause, LiveIn}
 use Rattle.cdcl_core.specs.Store.{StoreState}
-use Rattle.cdcl_core.specs.Logs.{Learned, LogContent, IsWhole, HasWhatItHad, Appends, TearsAt, Rises}
+use Rattle.proof_logs.specs.Logs.{Learned, LogContent, IsWhole, HasWhatItHad, Appends, TearsAt, Rises}
 use Rattle.cdcl_core.specs.Learning.{IsRefuted, IsNew, MayLearn, AreLearned, JoinNothing, with_learned, with_all}
 use Rattle.cdcl_core.specs.Solving.{Affords, Learns, LogGets, LogFailsOn, LogEnds}
 use Rattle.cdcl_core.specs.Seeking.{Seeks, FailsOn, bare}

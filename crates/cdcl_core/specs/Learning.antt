@@ -4,7 +4,7 @@ use Rattle.clause_meaning.specs.Refutation.{Refutes}
 use Rattle.clause_meaning.specs.Assignments.{Inside}
 use Rattle.clause_meaning.specs.Learning.{is_in, OccursIn, Parts, IsFreeOf, IsOneSided, IsLearnableIn}
 use Rattle.cdcl_core.specs.State.{State, LiveIn}
-use Rattle.cdcl_core.specs.Logs.{Learned}
+use Rattle.proof_logs.specs.Logs.{Learned}
 
 -- the clauses of the scope refute the assumptions by propagation alone
 abbrev pub IsRefuted : State → List ℕ → List ℕ → Type 0

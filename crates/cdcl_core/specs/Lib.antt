@@ -3,8 +3,6 @@ pub mod Labels
 pub mod Store
 pub mod Changes
 pub mod Shown
-pub mod Logs
-pub mod MemLogs
 pub mod Learning
 pub mod Solving
 pub mod Seeking

@@ -29,7 +29,7 @@ use Rattle.cdcl_core.specs.State.{State as Shown, LiveIn as ShownLive}
 use Rattle.cdcl_core.specs.Store.{StoreState, AreCounted}
 use Rattle.cdcl_core.specs.Shown.{literals_on}
 use Rattle.cdcl_core.specs.Changes.{live_in}
-use Rattle.cdcl_core.specs.Logs.{Learned, LogContent, Appends, HasWhatItHad, TearsAt, Rises}
+use Rattle.proof_logs.specs.Logs.{Learned, LogContent, Appends, HasWhatItHad, TearsAt, Rises}
 use Rattle.cdcl_core.specs.Learning.{IsRefuted, IsNew, with_learned}
 use Rattle.cdcl_core.specs.Solving.{IsModelOf}
 

@@ -10,7 +10,7 @@ use Rattle.cdcl_core.specs.declared.outcome.SolveFault.TheVariants as fault
 use Rattle.cdcl_core.specs.declared.outcome.Budget.{Budget}
 use Rattle.cdcl_core.specs.State.{State, LiveIn, value_in}
 use Rattle.cq_terms.specs.Lists.{IsAscending}
-use Rattle.cdcl_core.specs.Logs.{Learned, LogContent, IsWhole, Rises}
+use Rattle.proof_logs.specs.Logs.{Learned, LogContent, IsWhole, Rises}
 use Rattle.cdcl_core.specs.Learning.{IsRefuted, MayLearn, AreLearned, JoinNothing, with_all}
 
 -- what may be asked: an ascending scope, with the variables of the assumptions, and all or none of those of each live clause

@@ -3,15 +3,11 @@
 
 mod counts;
 mod labels;
-mod mem_log;
 mod outcome;
-mod proof_log;
 mod seek;
 mod seeking;
 mod solver;
 mod store;
 
-pub use mem_log::MemLog;
-pub use outcome::{Budget, LogFault, Outcome, SolveFault};
-pub use proof_log::ProofLog;
+pub use outcome::{Budget, Outcome, SolveFault};
 pub use solver::Solver;

@@ -1,4 +1,4 @@
-//! How a solve and a call of a log end.
+//! How a solve ends.
 
 ghost use Rattle.std.specs.Prelude.{◌≡◌};
 ghost use Rattle.cdcl_core.specs.declared.outcome.SolveFault.TheVariants as fault;
@@ -24,15 +24,6 @@ pub enum Outcome {
     Refuted,
     /// The budget is used up, and propagation doesn't refute the assumptions.
     Spent,
-}
-
-/// Why a log didn't take a clause.
-#[derive(Clone, Copy, Debug, PartialEq, Eq)]
-pub enum LogFault {
-    /// It failed, and counted a fault.
-    Failed,
-    /// Memory ran out, and the log is as it was.
-    NoMemory,
 }
 
 /// Why a solve didn't come to an outcome.

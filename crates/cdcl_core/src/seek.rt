@@ -1,14 +1,14 @@
 //! The search: it goes on until a clause is falsified, learns from it and goes on, until it ends or the budget is used up.
 
 ghost use Rattle.std.specs.Prelude.{◌≡◌, ◌<◌, ◌≤◌, List, IfOk, OnErr};
-ghost use Rattle.cdcl_core.specs.Logs.{Learned, IsWhole};
+ghost use Rattle.proof_logs.specs.Logs.{Learned, IsWhole};
 ghost use Rattle.cdcl_core.specs.Solving.{AreAskable, Affords, Learns, LogEnds};
 ghost use Rattle.cdcl_core.specs.Seeking.{StoreEnds, is_model_of, bare};
 
 use crate::outcome::{Budget, Outcome, SolveFault};
-use crate::proof_log::ProofLog;
 use crate::seeking::Stop;
 use crate::store::Store;
+use proof_logs::ProofLog;
 
 /// Looks for values that satisfy the assumptions and the clauses of the scope.
 pub fn seek<L: ProofLog>(

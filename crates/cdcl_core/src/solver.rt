@@ -4,16 +4,16 @@ ghost use Rattle.std.specs.Prelude.{◌≡◌, ◌≢◌, List, ◌<◌, ◌≤�
 ghost use Rattle.clause_meaning.specs.Literals.{AreBelow, HaveDistinctVariables};
 ghost use Rattle.cdcl_core.specs.State.{empty_solver, AddsClause, numbers_in, value_in, without_variable, without_number};
 ghost use Rattle.cq_terms.specs.Lists.{IsAscending};
-ghost use Rattle.cdcl_core.specs.Logs.{Learned, IsWhole};
+ghost use Rattle.proof_logs.specs.Logs.{Learned, IsWhole};
 ghost use Rattle.cdcl_core.specs.Solving.{AreAskable, Affords, Learns, LogEnds, Ends, cleared};
 
 use crate::labels::Selection;
 use crate::outcome::{Budget, Outcome, SolveFault};
-use crate::proof_log::ProofLog;
 use crate::seek::{is_model, seek};
 use crate::store::Store;
 use clause_meaning::literal_of;
 use cq_terms::{Longs, NoMemory};
+use proof_logs::ProofLog;
 use std::alloc::Global;
 use std::marker::Model;
 

@@ -15,21 +15,21 @@ ghost use Rattle.clause_learning.specs.Searching.{IsSearching, Searched};
 ghost use Rattle.clause_learning.specs.Lessons.{IsLesson};
 ghost use Rattle.std.specs.List.Sorted.{IsSorted};
 ghost use Rattle.std.specs.Ordering.{nat_cmp};
-ghost use Rattle.cdcl_core.specs.Logs.{IsWhole, Appends, TearsAt, Rises};
+ghost use Rattle.proof_logs.specs.Logs.{IsWhole, Appends, TearsAt, Rises};
 ghost use Rattle.cdcl_core.specs.State.{LiveIn};
 ghost use Rattle.cdcl_core.specs.Learning.{IsRefuted};
 ghost use Rattle.cdcl_core.specs.Seeking.{Seeks, StoreStops, LearnsOne, FailsOn, LogTakes, LogRefuses, bare};
 
 use crate::counts::{lower, raise};
 use crate::labels::{Label, Selection};
-use crate::outcome::{LogFault, SolveFault};
-use crate::proof_log::ProofLog;
+use crate::outcome::SolveFault;
 use crate::seeking::{Stop, advance, assert_lesson, begin, lesson_of, prefer};
 use cdcl_trail::Trail;
 use clause_arena::{Arena, ClauseRef};
 use clause_learning::{Lesson, Marks};
 use clause_meaning::literal_of;
 use cq_terms::{Longs, NoMemory};
+use proof_logs::{LogFault, ProofLog};
 use std::alloc::Global;
 use std::marker::Model;
 

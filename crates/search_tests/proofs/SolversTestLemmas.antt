@@ -11,7 +11,7 @@ use Rattle.cq_terms.specs.Lists.{IsAscending}
 use Rattle.clause_meaning.proofs.Members.{Contains-cons_cases, Contains-nil}
 use Rattle.cdcl_core.specs.declared.outcome.Budget.{Budget}
 use Rattle.cdcl_core.specs.State.{State, LiveClause, AscendsAs, AddsClause, empty_solver}
-use Rattle.cdcl_core.specs.Logs.{Learned}
+use Rattle.proof_logs.specs.Logs.{Learned}
 use Rattle.cdcl_core.specs.Learning.{AreLearned, with_learned, with_all}
 use Rattle.cdcl_core.specs.Solving.{Learns, AreAskable, cleared}
 use Rattle.cdcl_core.specs.Trials.{IsSmall, IsFresh, IsParted}

@@ -1,6 +1,7 @@
 //! The example of use in the doc of `Solver`, line by line.
 
-use cdcl_core::{Budget, MemLog, Outcome, Solver};
+use cdcl_core::{Budget, Outcome, Solver};
+use proof_logs::MemLog;
 use std::alloc::Global;
 use std::test::Fail;
 

@@ -8,6 +8,7 @@ ghost use Rattle.cdcl_core.specs.Trials.{IsSmall, IsFresh, IsParted};
 use cdcl_core::*;
 use clause_meaning::variable_of;
 use cq_terms::NoMemory;
+use proof_logs::{LogFault, MemLog, ProofLog};
 use std::alloc::Global;
 use std::process::Abort;
 use std::test::Fail;

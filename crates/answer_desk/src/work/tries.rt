@@ -3,7 +3,7 @@
 ghost use Rattle.std.specs.Prelude.{◌≡◌, ◌≢◌, ◌<◌, ◌≤◌, ◌+◌, ◌-◌, ◌^◌, ◌∷◌, [], List, ℕ, None, Some, length, IfOk, OnOk, OnErr};
 ghost use Rattle.clause_meaning.specs.Assignments.{IsInside};
 ghost use Rattle.clause_meaning.specs.Learning.{is_in};
-ghost use Rattle.cdcl_core.specs.Logs.{Learned};
+ghost use Rattle.proof_logs.specs.Logs.{Learned};
 ghost use Rattle.cdcl_core.specs.Solving.{Learns, Ends, cleared};
 ghost use Rattle.cq_io.specs.Faults.{TellsFault};
 ghost use Rattle.cq_terms.specs.Lists.{IsAscending};

@@ -1,5 +1,5 @@
 use Rattle.std.proofs.Common.{◌-◌, List}
-use Rattle.cdcl_core.specs.Logs.{Learned}
+use Rattle.proof_logs.specs.Logs.{Learned}
 use Rattle.cdcl_core.specs.Seeking.{bare}
 use Rattle.cdcl_core.proofs.Runs.{RunHolds}
 use Rattle.cdcl_core.proofs.seek.seek.Given as goal

@@ -3,7 +3,7 @@ use Rattle.cdcl_trail.specs.Fits.{IsFalsified}
 use Rattle.clause_learning.specs.Searching.{IsSearching}
 use Rattle.cdcl_core.specs.Store.{StoreState}
 use Rattle.cdcl_core.specs.Shown.{parts_of}
-use Rattle.cdcl_core.specs.Logs.{Learned, Appends}
+use Rattle.proof_logs.specs.Logs.{Learned, Appends}
 use Rattle.cdcl_core.specs.Learning.{IsNew, with_learned}
 use Rattle.cdcl_core.specs.Seeking.{Seeks, LearnsOne, FailsOn, bare}
 use Rattle.cdcl_core.proofs.Bare.{lesson_proper}

@@ -1,7 +1,7 @@
 -- What a log of learned clauses tells, and what a call does to it.
 use Rattle.std.specs.Prelude.{◌≡◌, ◌≤◌, ◌+◌, ◌-◌, ◌^◌, ◌++◌, min, ℕ, List, [], ◌∷◌, Option, Some, None}
-use Rattle.cdcl_core.specs.declared.outcome.LogFault.{LogFault}
-use Rattle.cdcl_core.specs.declared.outcome.LogFault.TheVariants as fault
+use Rattle.proof_logs.specs.declared.log_fault.LogFault.{LogFault}
+use Rattle.proof_logs.specs.declared.log_fault.LogFault.TheVariants as fault
 
 -- a learned clause with its number
 pub record Learned : Type 0 where

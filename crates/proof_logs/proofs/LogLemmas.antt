@@ -1,7 +1,7 @@
 -- The clauses of a log with their numbers.
 use Rattle.std.proofs.Common.{◌≡◌, ℕ, List, [], ◌∷◌, ◌++◌, length, refl, ap, arith}
-use Rattle.cdcl_core.specs.Logs.{Learned}
-use Rattle.cdcl_core.specs.MemLogs.{numbered}
+use Rattle.proof_logs.specs.Logs.{Learned}
+use Rattle.proof_logs.specs.MemLogs.{numbered}
 
 -- one more of each
 pub numbered-push : (numbers : List ℕ) (clauses : List (List ℕ)) (number : ℕ) (clause : List ℕ) → length numbers ≡ length clauses

@@ -1,8 +1,8 @@
 use Rattle.std.proofs.Common.{◌≡◌, ℕ, ◌++◌, ◌∷◌, [], List, Option, Some, ap, ◌∙◌}
-use Rattle.cdcl_core.specs.Logs.{Learned, LogContent}
-use Rattle.cdcl_core.specs.MemLogs.{LogState, numbered}
-use Rattle.cdcl_core.proofs.LogLemmas.{numbered-push}
-use Rattle.cdcl_core.proofs.mem_log.MemLog.keep.Goals as goal
+use Rattle.proof_logs.specs.Logs.{Learned, LogContent}
+use Rattle.proof_logs.specs.MemLogs.{LogState, numbered}
+use Rattle.proof_logs.proofs.LogLemmas.{numbered-push}
+use Rattle.proof_logs.proofs.mem_log.MemLog.keep.Goals as goal
 
 pub returns-clause-content : goal.returns-clause-content
 returns-clause-content c =

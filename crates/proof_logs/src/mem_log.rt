@@ -1,10 +1,10 @@
 //! A log in memory, seen as its clauses with their numbers, and when it fails.
 
 ghost use Rattle.std.specs.Prelude.{◌≡◌, false, IfErr, OnOk, Some, None, IsTrue, ◌↔◌, OnErr, Err};
-ghost use Rattle.cdcl_core.specs.Logs.{IsWhole, Appends, Tears, RisesAt};
-ghost use Rattle.cdcl_core.specs.MemLogs.{empty_log, content_of, is_call, with_call, with_failure};
+ghost use Rattle.proof_logs.specs.Logs.{IsWhole, Appends, Tears, RisesAt};
+ghost use Rattle.proof_logs.specs.MemLogs.{empty_log, content_of, is_call, with_call, with_failure};
 
-use crate::outcome::LogFault;
+use crate::log_fault::LogFault;
 use crate::proof_log::ProofLog;
 use cq_terms::{Ids, NoMemory};
 use std::alloc::Global;
@@ -29,7 +29,7 @@ struct TornClause {
 }
 
 impl Model for TornClause {
-    ghost use Rattle.cdcl_core.specs.Logs.{Learned};
+    ghost use Rattle.proof_logs.specs.Logs.{Learned};
 
     ghost Value = { Learned };
 
@@ -38,7 +38,7 @@ impl Model for TornClause {
 
 impl Model for MemLog {
     ghost use Rattle.std.specs.Prelude.{◌≡◌, length};
-    ghost use Rattle.cdcl_core.specs.MemLogs.{LogState};
+    ghost use Rattle.proof_logs.specs.MemLogs.{LogState};
 
     ghost Value = { LogState };
 

@@ -1,9 +1,9 @@
 //! A log of learned clauses, seen as what it has got, where it tells, and a count of faults.
 
 ghost use Rattle.std.specs.Prelude.{◌≡◌, ℕ, Option, OnOk, IfErr};
-ghost use Rattle.cdcl_core.specs.Logs.{LogContent, IsWhole, Appends, Tears, RisesAt};
+ghost use Rattle.proof_logs.specs.Logs.{LogContent, IsWhole, Appends, Tears, RisesAt};
 
-use crate::outcome::LogFault;
+use crate::log_fault::LogFault;
 
 /// Where a solver writes each clause that it learns, before the clause is live.
 pub trait ProofLog {

@@ -1,6 +1,6 @@
 -- What a `MemLog` shows, and when it fails.
 use Rattle.std.specs.Prelude.{◌==◌, ◌+◌, ◌++◌, min, ℕ, List, [], ◌∷◌, Bool, false, Option, Some, None}
-use Rattle.cdcl_core.specs.Logs.{Learned, LogContent, most_faults}
+use Rattle.proof_logs.specs.Logs.{Learned, LogContent, most_faults}
 
 -- the clauses and their numbers, in order; how many calls there were, which of them is to fail, and how many failed
 pub record LogState : Type 0 where
