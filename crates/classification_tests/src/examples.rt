@@ -4,13 +4,13 @@ ghost use Rattle.preparation.specs.Prepared.{IsPrepared};
 ghost use Rattle.cq_terms.specs.declared.facts.Repairs.TheVariants as mode;
 ghost use Rattle.classification_tests.specs.Told.{IsNamed};
 
-use crate::reports::{LIMITS, spacious};
+use crate::reports::{Ready, readied, spacious};
 use crate::rows::PAIRS;
 use crate::texts::read;
 use classifier::{Plan, Summary, classify};
 use cq_io::MemSink;
 use cq_terms::{Cq, Kb, Repairs, Vocab};
-use preparation::{Prepared, prepare};
+use preparation::Prepared;
 use refutation_confirmer::{Confirmed, confirm};
 use report_text::LineSink;
 use std::alloc::Global;
@@ -66,17 +66,45 @@ fn accepted(
     }
 }
 
+/// The number of answers of the report on what is prepared.
+fn answers_of(alloc: Global, ready: &Ready, sink: &mut MemSink) -> Result<u64, Fail>
+    requires named { IsNamed ready.now.told.kb ready.now.told.query ready.now.told.vocab }
+    requires prepared { IsPrepared ready.now.told.kb ready.now.told.query mode.Pareto ready.now.prepared }
+{
+    let told = &ready.told;
+    let summary = classified(
+        alloc,
+        &told.kb,
+        &told.vocab,
+        &told.query,
+        &ready.prepared,
+        sink,
+    )?;
+    Ok(summary.answers)
+}
+
+/// The number of answers of the report on the pairs, which goes into the sink.
+fn pairs_classified(alloc: Global, sink: &mut MemSink) -> Result<u64, Fail> {
+    let ready = readied(alloc, &PAIRS, Repairs::Pareto)?;
+    answers_of(alloc, &ready, sink)
+}
+
+/// What is said of a report on the pairs.
+fn pairs_accepted(alloc: Global, report: &[u8]) -> Result<Result<u64, u64>, Fail> {
+    let told = read(alloc, &PAIRS)?;
+    accepted(alloc, &told.kb, &told.vocab, &told.query, report)
+}
+
 #[test]
 fn a_report_is_written_and_accepted(rt: HostRuntime) -> Result<(), Fail> {
-    let alloc = rt.alloc();
-    let told = read(alloc, &PAIRS)?;
-    let prepared = prepare(alloc, &told.kb, &told.query, Repairs::Pareto, &LIMITS)?;
-    let mut sink = spacious(alloc, None)?;
-    let (kb, vocab, query) = (&told.kb, &told.vocab, &told.query);
-    let summary = classified(alloc, kb, vocab, query, &prepared, &mut sink)?;
-    let report = sink.written();
-    assert_eq!(rt; summary.answers, 1);
-    assert!(rt; accepted(alloc, kb, vocab, query, report)? == Ok(1));
-    assert!(rt; accepted(alloc, kb, vocab, query, &[])? == Err(1));
+    let mut sink = spacious(rt.alloc(), None)?;
+    assert_eq!(rt; pairs_classified(rt.alloc(), &mut sink)?, 1);
+    assert!(rt; pairs_accepted(rt.alloc(), sink.written())? == Ok(1));
+    Ok(())
+}
+
+#[test]
+fn an_empty_report_lacks_its_first_line(rt: HostRuntime) -> Result<(), Fail> {
+    assert!(rt; pairs_accepted(rt.alloc(), &[])? == Err(1));
     Ok(())
 }

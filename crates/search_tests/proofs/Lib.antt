@@ -1,3 +1,4 @@
+mod ExamplesTestLemmas
 mod ArenasTestLemmas
 mod TrailsTestLemmas
 mod LessonsTestLemmas
