@@ -1,6 +1,2 @@
 mod ExamplesTestLemmas
-mod ArenasTestLemmas
-mod TrailsTestLemmas
-mod LessonsTestLemmas
 mod SolversTestLemmas
-mod CheckersTestLemmas

@@ -1,15 +1,7 @@
-//! Tests of clauses under references, trails, learning, searches and the checker of refutations.
+//! Tests of searches.
 #![tactic(auto)]
 
 #[cfg(test)]
-mod arenas;
-#[cfg(test)]
-mod checkers;
-#[cfg(test)]
 mod examples;
 #[cfg(test)]
-mod lessons;
-#[cfg(test)]
 mod solvers;
-#[cfg(test)]
-mod trails;

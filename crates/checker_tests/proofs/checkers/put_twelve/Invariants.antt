@@ -1,5 +1,5 @@
 use Rattle.std.proofs.Common.{◌≡◌, ◌*◌}
-use Rattle.search_tests.proofs.checkers.put_twelve.Given as goal
+use Rattle.checker_tests.proofs.checkers.put_twelve.Given as goal
 
 abbrev pub invariant-loop-i : goal.invariant-loop-i
 invariant-loop-i g l = record {

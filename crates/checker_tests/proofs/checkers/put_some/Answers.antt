@@ -1,6 +1,6 @@
 use Rattle.std.proofs.Common.{◌∙◌}
-use Rattle.search_tests.proofs.CheckersTestLemmas.{newest_is_live}
-use Rattle.search_tests.proofs.checkers.put_some.Goals as goal
+use Rattle.checker_tests.proofs.CheckersTestLemmas.{newest_is_live}
+use Rattle.checker_tests.proofs.checkers.put_some.Goals as goal
 
 pub returns-clause-live : goal.returns-clause-live
 returns-clause-live g c =

@@ -1,6 +1,6 @@
 use Rattle.std.proofs.Common.{ℕ, sym, subst}
 use Rattle.rup_check.specs.State.{IsLive}
-use Rattle.search_tests.proofs.checkers.put_two.Goals as goal
+use Rattle.checker_tests.proofs.checkers.put_two.Goals as goal
 
 pub forget-requires : goal.forget-requires
 forget-requires g c = record {

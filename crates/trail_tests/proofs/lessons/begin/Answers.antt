@@ -1,8 +1,8 @@
 use Rattle.std.proofs.Common.{ap, ◌∙◌}
 use Rattle.cdcl_trail.specs.State.{State}
-use Rattle.search_tests.proofs.LessonsTestLemmas.{begins}
+use Rattle.trail_tests.proofs.LessonsTestLemmas.{begins}
 use Rattle.clause_learning.proofs.Growing.{IsSearching-grows}
-use Rattle.search_tests.proofs.lessons.begin.Goals as goal
+use Rattle.trail_tests.proofs.lessons.begin.Goals as goal
 
 pub returns-in-None : goal.returns-in-None
 returns-in-None c = λ told.

@@ -1,7 +1,7 @@
 use Rattle.std.proofs.Common.{◌≡◌, ℕ, length, sym, subst, ap, arith}
 use Rattle.clause_meaning.specs.Literals.{AreBelow}
-use Rattle.search_tests.proofs.LessonsTestLemmas.{long_pushed}
-use Rattle.search_tests.proofs.lessons.put.Goals as goal
+use Rattle.trail_tests.proofs.LessonsTestLemmas.{long_pushed}
+use Rattle.trail_tests.proofs.lessons.put.Goals as goal
 
 pub push-requires-clause-some : goal.push-requires-clause-some
 push-requires-clause-some c = λ e. (let short : length c.args.clause.now ≡ 0 = ap length e in omega (arith, short, c.requires.clause.two))

@@ -2,8 +2,8 @@ use Rattle.std.proofs.Common.{◌≡◌, ◌+◌, length, ap, arith}
 use Rattle.cdcl_trail.specs.State.{State}
 use Rattle.cdcl_trail.specs.Fits.{IsComplete}
 use Rattle.clause_learning.specs.Trials.{IsReady}
-use Rattle.search_tests.proofs.LessonsTestLemmas.{guessed, ready_again, where_none}
-use Rattle.search_tests.proofs.lessons.guess.Goals as goal
+use Rattle.trail_tests.proofs.LessonsTestLemmas.{guessed, ready_again, where_none}
+use Rattle.trail_tests.proofs.lessons.guess.Goals as goal
 
 pub decide-requires-clause-in_range : goal.decide-requires-clause-in_range
 decide-requires-clause-in_range c = omega (arith, c.requires.in_range, c.requires.ready.searching.fits.same_variables, c.requires.ready.long.variables)

@@ -1,0 +1,3 @@
+mod ArenasTestLemmas
+mod TrailsTestLemmas
+mod LessonsTestLemmas
