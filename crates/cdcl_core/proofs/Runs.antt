@@ -92,7 +92,8 @@ LogFailsOn-torn None mid after entries e got torn = tt
 LogFailsOn-torn (Some before) mid after entries e got torn = subst (λ (m : Option LogContent). TearsAt m after e.number e.clause) got torn
 
 -- or the log has what it had
-LogGets-stays : (before mid after : Option LogContent) (entries : List Learned) → LogGets before mid entries → HasWhatItHad mid after → LogGets before after entries
+LogGets-stays : (before mid after : Option LogContent) (entries : List Learned) → LogGets before mid entries → HasWhatItHad mid after
+    → LogGets before after entries
 LogGets-stays None None after entries whole same = same
 LogGets-stays None (Some mid) after entries whole same = subst IsWhole (sym same) whole
 LogGets-stays (Some before) mid after entries got same = subst (λ (m : Option LogContent). HasWhatItHad m after) got same

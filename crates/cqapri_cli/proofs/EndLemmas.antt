@@ -244,7 +244,8 @@ module _ (laws : Laws) (held : Held) (names : FileNames) where
     one_stop failing others r t d e (inr (inl (w, x))) (inr (inr v)) = absurd (report_asks_none failing r d w v.report v.read.fetched)
     one_stop failing others r t d e (inr (inr w)) (inl v) = absurd (said_ask_none others t e v w.kb w.q w.vocab w.read.say)
     one_stop failing others r t d e (inr (inr w)) (inr (inl (v, y))) = absurd (report_asks_none others t e v w.report w.read.fetched)
-    one_stop failing others r t d e (inr (inr w)) (inr (inr v)) = subst (λ a. AreOneEnd a t) (sym w.is_cycle) (subst (AreOneEnd _) (sym v.is_cycle) (inr (tt, tt)))
+    one_stop failing others r t d e (inr (inr w)) (inr (inr v)) = subst (λ a. AreOneEnd a t) (sym w.is_cycle)
+        (subst (AreOneEnd _) (sym v.is_cycle) (inr (tt, tt)))
 
     no_stop : (failing others : Option Failing) (r : Refusal) (verdict : Confirmed) → SaysOfFiles r → Stop failing r
         → Judges (Some held) others names name verdict → ⊥

@@ -217,7 +217,8 @@ module _ (holds : Option Held) (failing : Option Failing) (old new : Option (Lis
   none_of (request.bench size) e = e
 
   -- nothing is left where the status says so
-  classify_unwritten : (names : FileNames) (settings : Settings) → (r : Refusal) → WritesNothing (status_of r) → LeavesClassify holds failing names settings old new r → new ≡ old
+  classify_unwritten : (names : FileNames) (settings : Settings) → (r : Refusal) → WritesNothing (status_of r)
+      → LeavesClassify holds failing names settings old new r → new ≡ old
   classify_unwritten names settings refusal.Words n w = w
   classify_unwritten names settings (refusal.NotThere f) n w = w
   classify_unwritten names settings (refusal.Faulty wrong) n w = w
@@ -227,7 +228,8 @@ module _ (holds : Option Held) (failing : Option Failing) (old new : Option (Lis
   classify_unwritten names settings refusal.WriteFault n w = absurd (n.2 refl)
   classify_unwritten names settings refusal.NoMemory n w = absurd (n.3 refl)
 
-  confirm_unwritten : (names : FileNames) (name : List ℕ) → (r : Refusal) → WritesNothing (status_of r) → LeavesConfirm holds failing names name old new r → new ≡ old
+  confirm_unwritten : (names : FileNames) (name : List ℕ) → (r : Refusal) → WritesNothing (status_of r)
+      → LeavesConfirm holds failing names name old new r → new ≡ old
   confirm_unwritten names name refusal.Words n w = w
   confirm_unwritten names name (refusal.NotThere f) n w = w
   confirm_unwritten names name (refusal.Faulty wrong) n w = w
@@ -344,7 +346,8 @@ module _ (laws : EachEndIsOne) (tables : EachTableEndIsOne) (failing : Option Fa
   pub complete_end : (A B : Type 0) (holds : Option Held) (old new : Option (List ℕ)) (s : Status) → IsEnd s
       → IsAchieved holds failing words old new s → IfSome holds (λ held. A → B → IsComplete held words s)
   complete_end A B None old new s end a = tt
-  complete_end A B (Some held) old new s end a = λ m n other w. inr (exact_end held old new s end other (achieved (Some held) failing old new words meaning s a other w))
+  complete_end A B (Some held) old new s end a = λ m n other w. inr
+      (exact_end held old new s end other (achieved (Some held) failing old new words meaning s a other w))
 
   -- by a refusal that says something of the files
   exact_refused : (held : Held) (r : Refusal) → SaysOfFiles r → (q : Request) → Stops (Some held) failing r q → IsExact held (status_of r) q

@@ -4,7 +4,8 @@ use Rattle.cqapri_words.specs.CommandLine.{faults_in, value_in}
 use Rattle.cqapri_words.specs.Numbers.{number_in}
 use Rattle.cqapri_words.specs.Options.{are_right, is_required, job_word, options_of}
 use Rattle.cqapri_words.specs.GivenWords.{is_among}
-use Rattle.cqapri_words.specs.Requests.{AreRefused, AreValuesOf, AskFor, NameNothing, AskNothingWhereRefused, Request, bench, classify, command_of, confirm, table}
+use Rattle.cqapri_words.specs.Requests.{AreRefused, AreValuesOf, AskFor, NameNothing, AskNothingWhereRefused, Request, bench, classify, command_of}
+use Rattle.cqapri_words.specs.Requests.{confirm, table}
 use Rattle.cqapri_words.specs.Words.{AreNamed, FileNames, settings_by}
 use Rattle.cqapri_words.specs.declared.options.Command.{Command}
 use Rattle.cqapri_words.specs.declared.options.Command.TheVariants as command

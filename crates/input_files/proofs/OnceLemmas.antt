@@ -198,7 +198,8 @@ module _ (vocab : Vocab) (apart : AreApart vocab) where
   facts_once (fields ∷ rows) (f ∷ fs) [] a b = absurd b
 
 -- the fact numbers of records
-numbers_once : (table : List Fact) → AreDistinct table → (facts : List Fact) (ms ns : List ℕ) → AllZip (λ given number. slice_get table number ≡ Some given) facts ms
+numbers_once : (table : List Fact) → AreDistinct table → (facts : List Fact) (ms ns : List ℕ)
+    → AllZip (λ given number. slice_get table number ≡ Some given) facts ms
     → AllZip (λ given number. slice_get table number ≡ Some given) facts ns → ms ≡ ns
 numbers_once table distinct [] [] [] a b = refl
 numbers_once table distinct (given ∷ facts) (m ∷ ms) (n ∷ ns) a b =

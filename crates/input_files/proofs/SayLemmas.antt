@@ -21,7 +21,8 @@ one_text : (o : Option (List ℕ)) (bytes others : List ℕ) → o ≡ Some byte
 one_text o bytes others e d = let both : Some bytes ≡ Some others = sym e ∙ d in cc
 
 -- so has the priority, where it is named
-one_priority : (held : Held) (named text other : Option (List ℕ)) → IsPriorityText (Some held) named text → IsPriorityText (Some held) named other → text ≡ other
+one_priority : (held : Held) (named text other : Option (List ℕ)) → IsPriorityText (Some held) named text → IsPriorityText (Some held) named other
+    → text ≡ other
 one_priority held None text other a b = a ∙ sym b
 one_priority held (Some name) text other (bytes, fetched, is) (others, also, d) =
     is ∙ ap Some (one_text (held name) bytes others fetched.held also.held) ∙ sym d

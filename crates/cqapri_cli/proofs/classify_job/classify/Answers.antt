@@ -60,9 +60,11 @@ returns-in_err-ready-clause-stopped g c =
     let settings = settings_in c.args.options.now in
     let old = g.O.Sink.written c.args.out.now in
     let input = c.in_ok-input.input in
-    let end = stops_preparing holds failing names settings input.kb input.query input.vocab c.in_ok-input.ensures.exact c.in_ok-input.ensures.succeeded c.in_err-ready.field-0.0
+    let end = stops_preparing holds failing names settings input.kb input.query input.vocab c.in_ok-input.ensures.exact
+    c.in_ok-input.ensures.succeeded c.in_err-ready.field-0.0
     c.in_err-ready.ensures.stopped in
-    IfErr-of _ _ c.from_residual-in_err-ready.result c.from_residual-in_err-ready.ensures.1 (λ r e. subst (StopsClassify holds failing names settings) (sym e) end)
+    IfErr-of _ _ c.from_residual-in_err-ready.result c.from_residual-in_err-ready.ensures.1
+    (λ r e. subst (StopsClassify holds failing names settings) (sym e) end)
 
 pub returns-in_err-ready-clause-left : goal.returns-in_err-ready-clause-left
 returns-in_err-ready-clause-left g c =
@@ -73,7 +75,8 @@ returns-in_err-ready-clause-left g c =
     let old = g.O.Sink.written c.args.out.now in
     let input = c.in_ok-input.input in
     let end = leaves_preparing holds failing names settings old old c.in_err-ready.field-0.0 c.in_err-ready.ensures.of_preparing refl in
-    IfErr-of _ _ c.from_residual-in_err-ready.result c.from_residual-in_err-ready.ensures.1 (λ r e. subst (LeavesClassify holds failing names settings old old) (sym e) end)
+    IfErr-of _ _ c.from_residual-in_err-ready.result c.from_residual-in_err-ready.ensures.1
+    (λ r e. subst (LeavesClassify holds failing names settings old old) (sym e) end)
 
 pub returns-in_err-ready-clause-read_fault : goal.returns-in_err-ready-clause-read_fault
 returns-in_err-ready-clause-read_fault g c =
@@ -83,7 +86,8 @@ returns-in_err-ready-clause-read_fault g c =
     let settings = settings_in c.args.options.now in
     let old = g.O.Sink.written c.args.out.now in
     let input = c.in_ok-input.input in
-    read_unfailed c.from_residual-in_err-ready.result c.in_err-ready.field-0.0 c.from_residual-in_err-ready.ensures.1 (preparing_no_fault c.in_err-ready.field-0.0 c.in_err-ready.ensures.of_preparing).0 _ _ c.in_ok-input.ensures.fault
+    read_unfailed c.from_residual-in_err-ready.result c.in_err-ready.field-0.0 c.from_residual-in_err-ready.ensures.1
+    (preparing_no_fault c.in_err-ready.field-0.0 c.in_err-ready.ensures.of_preparing).0 _ _ c.in_ok-input.ensures.fault
 
 pub returns-in_err-ready-clause-write_fault : goal.returns-in_err-ready-clause-write_fault
 returns-in_err-ready-clause-write_fault g c =
@@ -93,7 +97,8 @@ returns-in_err-ready-clause-write_fault g c =
     let settings = settings_in c.args.options.now in
     let old = g.O.Sink.written c.args.out.now in
     let input = c.in_ok-input.input in
-    write_unfailed c.from_residual-in_err-ready.result c.in_err-ready.field-0.0 c.from_residual-in_err-ready.ensures.1 (preparing_no_fault c.in_err-ready.field-0.0 c.in_err-ready.ensures.of_preparing).1 _ _ refl
+    write_unfailed c.from_residual-in_err-ready.result c.in_err-ready.field-0.0 c.from_residual-in_err-ready.ensures.1
+    (preparing_no_fault c.in_err-ready.field-0.0 c.in_err-ready.ensures.of_preparing).1 _ _ refl
 
 pub returns-clause-answers : goal.returns-clause-answers
 returns-clause-answers g c =

@@ -35,7 +35,8 @@ returns-in_err-ready-clause-stopped g c =
     let input = c.in_ok-input.input in
     let end = stops_preparing holds failing names settings input.kb input.query input.vocab c.in_ok-input.ensures.exact c.in_ok-input.ensures.succeeded
     c.in_err-ready.field-0.0 c.in_err-ready.ensures.stopped in
-    IfErr-of _ _ c.from_residual-in_err-ready.result c.from_residual-in_err-ready.ensures.1 (λ r e. subst (StopsClassify holds failing names settings) (sym e) end)
+    IfErr-of _ _ c.from_residual-in_err-ready.result c.from_residual-in_err-ready.ensures.1
+    (λ r e. subst (StopsClassify holds failing names settings) (sym e) end)
 
 pub returns-in_err-ready-clause-no_output : goal.returns-in_err-ready-clause-no_output
 returns-in_err-ready-clause-no_output g c =

@@ -5,7 +5,8 @@ use Rattle.cqapri_words.specs.Requests as request
 use Rattle.cqapri_words.specs.declared.refusal.Refusal.TheVariants as refusal
 use Rattle.cqapri_words.specs.declared.status.Status.TheVariants as status
 use Rattle.cqapri_cli.specs.Ends.{IsEnd, WritesNothing, is_read_status, is_write_status}
-use Rattle.cqapri_cli.proofs.RunLemmas.{achieved, by_status, complete_end, complete_refused, end_no_fault, end_not, end_writes, explained, never_end, no_job_refused, none_or_part}
+use Rattle.cqapri_cli.proofs.RunLemmas.{achieved, by_status, complete_end, complete_refused, end_no_fault, end_not, end_writes, explained, never_end}
+use Rattle.cqapri_cli.proofs.RunLemmas.{no_job_refused, none_or_part}
 use Rattle.cqapri_cli.proofs.RunLemmas.{part, read_status, unwritten, words_refused, write_status}
 use Rattle.cqapri_cli.proofs.top_call.run.Goals as goal
 

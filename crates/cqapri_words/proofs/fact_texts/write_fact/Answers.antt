@@ -4,7 +4,8 @@ use Rattle.cqapri_words.proofs.fact_texts.write_fact.Goals as goal
 
 pub returns-in-Concept-clause-part : goal.returns-in-Concept-clause-part
 returns-in-Concept-clause-part g c =
-    OnErr-appends c.write_pieces.result _ _ (concept_pieces c.args.vocab.now c.args.fact c.in-Concept.pred c.in-Concept.ind c.in-Concept.is c.args.before.now _ _ _ _
+    OnErr-appends c.write_pieces.result _ _
+    (concept_pieces c.args.vocab.now c.args.fact c.in-Concept.pred c.in-Concept.ind c.in-Concept.is c.args.before.now _ _ _ _
     c.as_bytes.ensures.value c.text-concept.ensures.lent
     c.as_bytes-in-Concept.ensures.value c.text-name.ensures.lent) c.write_pieces.ensures.part
 

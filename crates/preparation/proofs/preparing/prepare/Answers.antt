@@ -1,6 +1,7 @@
 use Rattle.std.proofs.Common.{◌≡◌, ◌∙◌, ap, Err, length, inl}
 use Rattle.std.proofs.lemmas.Result.{err_from_is_err_and}
-use Rattle.preparation.proofs.PreparedLemmas.{none_larger, found_refused, better_refused, supports_refused, conflicts_found, conflicts_without_pairs, tuples_below}
+use Rattle.preparation.proofs.PreparedLemmas.{none_larger, found_refused, better_refused, supports_refused, conflicts_found, conflicts_without_pairs}
+use Rattle.preparation.proofs.PreparedLemmas.{tuples_below}
 use Rattle.conflict_finder.proofs.Closings.{closure_fits}
 use Rattle.preparation.proofs.preparing.prepare.Goals as goal
 

@@ -53,7 +53,8 @@ loop-literal-preserved c =
     record {
       same_variables = c.mark_once.ensures.same_variables ∙ c.loop-literal.invariant.same_variables;
       more = later_twice c.args.marks.now.literals old new c.loop-literal.invariant.more c.mark_once.ensures.more;
-      marked = marked_more c.args.marks.now.literals old new c.args.literals.now i c.loop-literal-test.true c.loop-literal.invariant.marked c.mark_once.ensures.marked;
+      marked = marked_more c.args.marks.now.literals old new c.args.literals.now i c.loop-literal-test.true c.loop-literal.invariant.marked
+          c.mark_once.ensures.marked;
       consistent = consistent_once old new (get_or c.args.literals.now i 0) c.loop-literal.invariant.consistent
           (λ m. both_ways _ c.if-has.false (c.has.ensures.1 (subst (IsMarked old) (sym c.opposite.ensures) m))) c.mark_once.ensures.marked;
     }
